@@ -1,0 +1,67 @@
+-- The binder counts of places whose words pass their checks. Assumes nothing.
+use mathlib.Core.Path.{_≡_, refl, sym, _∙_, ap}
+use mathlib.Core.Bool.{true, false}
+use mathlib.Core.Logic.{_≢_}
+use mathlib.Core.List.{List}
+use Prim.Native.Nat.{ℕ, zero, suc, _+_, _-_, _<_, _≤_, max}
+use native.Mathlib.Omega.{arith}
+use native.Mathlib.Numerals.{add-one}
+use borrow.Author.Count.{below-more}
+use lib.ListN.{length, getD, set}
+use lib.Seq.{getD-set-same, getD-set-other}
+use Rattle.std.specs.Options.{isSome}
+use Rattle.std.proofs.shelf.Ways.{tells}
+use Rattle.formula.specs.Admission.{Counted, GoodBefore, allBelow, binders, bindersOf, bindersWithin, fault, named}
+use Rattle.formula.specs.Words.{shapeAt}
+use Rattle.formula.specs.declared.word.Word.{Word}
+use Rattle.formula.specs.declared.word.Word.the-variants.{Number, Variable, Operation as Op, Input, Abstraction, Application, NotAllowed}
+use Rattle.formula.proofs.Faults.{names-below}
+
+-- counts that agree below a place give the same count to a word that names places below it
+pub same-count : (word : Word) (place : ℕ) (f g : ℕ → ℕ) → allBelow place (named word) ≡ true → ((p : ℕ) → p < place → f p ≡ g p) → bindersOf word f ≡ bindersOf word g
+same-count (Number n) place f g below same = refl
+same-count (Variable i) place f g below same = refl
+same-count (Op op) place f g below same = refl
+same-count (Input i) place f g below same = refl
+same-count (Abstraction body) place f g below same = ap (λ n. n - 1) (same body (grind (arith, tells)))
+same-count (Application function argument) place f g below same =
+    let l = same function (grind (arith, tells)) in
+    let r = same argument (grind (arith, tells)) in
+    cc
+same-count NotAllowed place f g below same = refl
+
+-- past the place's number, more turns do not change its count
+more-turns : (inputs : ℕ) (words : List ℕ) (m n place : ℕ) → place < m → place < n → GoodBefore inputs words (suc place) → bindersWithin words m place ≡ bindersWithin words n place
+more-turns inputs words zero n place h k good = absurd (omega arith)
+more-turns inputs words (suc m) zero place h k good = absurd (omega arith)
+more-turns inputs words (suc m) (suc n) place h k good =
+    same-count (shapeAt words place) place (bindersWithin words m) (bindersWithin words n)
+    (names-below inputs (shapeAt words place) place (good place (omega arith)))
+    (λ p below. more-turns inputs words m n p (omega arith) (omega arith) (λ q under. good q (omega arith)))
+
+-- the count of a place whose words pass their checks, from the counts of the places that it names
+pub count-by-named : (inputs : ℕ) (words : List ℕ) (place : ℕ) → GoodBefore inputs words (suc place) → binders words place ≡ bindersOf (shapeAt words place) (binders words)
+count-by-named inputs words place good =
+    same-count (shapeAt words place) place (bindersWithin words place) (binders words)
+    (names-below inputs (shapeAt words place) place (good place (omega arith)))
+    (λ p below. more-turns inputs words place (suc p) p below (omega arith) (λ q under. good q (omega arith)))
+
+-- a loop's step: one word more passes its checks
+pub good-more : (inputs : ℕ) (words : List ℕ) (place : ℕ) → GoodBefore inputs words place → isSome (fault inputs (shapeAt words place) place) ≡ false → GoodBefore inputs words (place + 1)
+good-more inputs words place good here = below-more (λ p. isSome (fault inputs (shapeAt words p) p) ≡ false) place good here
+
+-- and its count is written
+pub counted-more : (inputs : ℕ) (words before work : List ℕ) (place count : ℕ) → GoodBefore inputs words (place + 1) → place < length work → count ≡ bindersOf (shapeAt words place) (λ p. getD work p 0) → Counted words place before work → Counted words (place + 1) before (set work place count)
+counted-more inputs words before work place count good within right old = record {
+  written = below-more (λ p. getD (set work place count) p 0 ≡ binders words p) place
+      (λ p below. let apart : p ≢ place = omega arith in rw getD-set-other (old .written p below))
+      (rw getD-set-same here);
+  rest = λ p above. let apart : p ≢ place = omega arith in rw getD-set-other (old .rest p (omega arith));
+}
+  where
+    upto : GoodBefore inputs words (suc place)
+    upto = λ p below. good p (omega arith)
+
+    here : count ≡ binders words place
+    here =
+        right ∙ same-count (shapeAt words place) place (λ p. getD work p 0) (binders words) (names-below inputs (shapeAt words place) place (upto place (omega arith))) (old .written) ∙ sym (count-by-named inputs words place upto)

@@ -1,0 +1,125 @@
+-- Which tables of words are formulas, and what admission answers and writes. Assumes nothing.
+use mathlib.Core.Path.{_≡_}
+use mathlib.Core.Bool.{Bool, true, false, cond, _&&_}
+use mathlib.Core.List.{List, [], _∷_}
+use mathlib.Core.Logic.{_⊎_}
+use Prim.Native.Nat.{ℕ, zero, suc, _+_, _-_, _<_, _≤_, max}
+use lib.Dec.{ltb}
+use lib.ListN.{length, getD}
+use Rattle.std.specs.Options.{isSome}
+use Rattle.std.specs.declared.option.Option.{Option}
+use Rattle.std.specs.declared.option.Option.the-variants.{Some, None}
+use Rattle.std.specs.declared.result.Result.{Result}
+use Rattle.std.specs.declared.result.Result.the-variants.{Ok, Err}
+use Rattle.formula.specs.declared.refusal.Refusal.{Refusal}
+use Rattle.formula.specs.declared.refusal.Refusal.the-variants.{WordCount, ShortTable, BadLeaf, PlaceNotBelow, NoSuchInput, NotClosed}
+use Rattle.formula.specs.declared.word.Word.{Word}
+use Rattle.formula.specs.declared.word.Word.the-variants.{Number, Variable, Operation as Op, Input, Abstraction, Application, NotAllowed}
+use Rattle.formula.specs.Words.{shapeAt}
+
+-- the places that a word names
+abbrev pub named : Word → List ℕ
+named (Abstraction body) = body ∷ []
+named (Application function argument) = function ∷ argument ∷ []
+named (Number n) = []
+named (Variable i) = []
+named (Op op) = []
+named (Input i) = []
+named NotAllowed = []
+
+-- the binder count of a word, from the counts of the places that it names
+abbrev pub bindersOf : Word → (ℕ → ℕ) → ℕ
+bindersOf (Variable i) count = i + 1
+bindersOf (Abstraction body) count = count body - 1
+bindersOf (Application function argument) count = max (count function) (count argument)
+bindersOf (Number n) count = 0
+bindersOf (Op op) count = 0
+bindersOf (Input i) count = 0
+bindersOf NotAllowed count = 0
+
+-- The binder count of a place. Named places are below their own, so one more turn than the place's number suffices.
+abbrev pub bindersWithin : List ℕ → ℕ → ℕ → ℕ
+bindersWithin words zero place = 0
+bindersWithin words (suc turns) place = bindersOf (shapeAt words place) (bindersWithin words turns)
+
+abbrev pub binders : List ℕ → ℕ → ℕ
+binders words place = bindersWithin words (suc place) place
+
+abbrev pub allowed : Word → Bool
+allowed NotAllowed = false
+allowed (Number n) = true
+allowed (Variable i) = true
+allowed (Op op) = true
+allowed (Input i) = true
+allowed (Abstraction body) = true
+allowed (Application function argument) = true
+
+abbrev pub allBelow : ℕ → List ℕ → Bool
+allBelow place [] = true
+allBelow place (p ∷ ps) = ltb p place && allBelow place ps
+
+abbrev pub inputKnown : ℕ → Word → Bool
+inputKnown inputs (Input i) = ltb i inputs
+inputKnown inputs (Number n) = true
+inputKnown inputs (Variable i) = true
+inputKnown inputs (Op op) = true
+inputKnown inputs (Abstraction body) = true
+inputKnown inputs (Application function argument) = true
+inputKnown inputs NotAllowed = true
+
+-- the first check that a word at a place fails, if any
+abbrev pub fault : ℕ → Word → ℕ → Option Refusal
+fault inputs word place =
+    cond (allowed word)
+    (cond (allBelow place (named word)) (cond (inputKnown inputs word) None (Some (NoSuchInput place))) (Some (PlaceNotBelow place)))
+    (Some (BadLeaf place))
+
+abbrev pub Sized : List ℕ → Type 0
+Sized words = (0 < length words) × (length words ≤ 32768)
+
+-- the words before a place pass their checks
+abbrev pub GoodBefore : ℕ → List ℕ → ℕ → Type 0
+GoodBefore inputs words end = (place : ℕ) → place < end → isSome (fault inputs (shapeAt words place) place) ≡ false
+
+abbrev pub root : List ℕ → ℕ
+root words = length words - 1
+
+abbrev pub Closed : List ℕ → Type 0
+Closed words = binders words (root words) ≡ 0
+
+-- the words are a formula of so many inputs
+pub record Admitted (inputs : ℕ) (words : List ℕ) : Type 0 where
+  pub sized : Sized words
+  pub good : GoodBefore inputs words (length words)
+  pub closed : Closed words
+
+-- the word at a place is the first that fails a check
+pub record FirstBad (inputs : ℕ) (words : List ℕ) (place : ℕ) (why : Refusal) : Type 0 where
+  pub within : place < length words
+  pub before : GoodBefore inputs words place
+  pub here : fault inputs (shapeAt words place) place ≡ Some why
+
+-- when each refusal comes, for so many inputs and a work table of so many places
+abbrev pub Refused : ℕ → List ℕ → ℕ → Refusal → Type 0
+Refused inputs words room WordCount = Sized words → ⊥
+Refused inputs words room ShortTable = Sized words × (room < length words)
+Refused inputs words room (BadLeaf place) = Sized words × (length words ≤ room) × FirstBad inputs words place (BadLeaf place)
+Refused inputs words room (PlaceNotBelow place) = Sized words × (length words ≤ room) × FirstBad inputs words place (PlaceNotBelow place)
+Refused inputs words room (NoSuchInput place) = Sized words × (length words ≤ room) × FirstBad inputs words place (NoSuchInput place)
+Refused inputs words room (NotClosed place) =
+    Sized words × (length words ≤ room) × GoodBefore inputs words (length words) × (Closed words → ⊥) × (place ≡ root words)
+
+-- how many binder counts an answer leaves written
+abbrev pub countedBy : {X : Type 0} → List ℕ → Result X Refusal → ℕ
+countedBy words (Ok x) = length words
+countedBy words (Err WordCount) = 0
+countedBy words (Err ShortTable) = 0
+countedBy words (Err (BadLeaf place)) = place
+countedBy words (Err (PlaceNotBelow place)) = place
+countedBy words (Err (NoSuchInput place)) = place
+countedBy words (Err (NotClosed place)) = length words
+
+-- the counts of the first so many words are written, and nothing else
+pub record Counted (words : List ℕ) (many : ℕ) (before after : List ℕ) : Type 0 where
+  pub written : (place : ℕ) → place < many → getD after place 0 ≡ binders words place
+  pub rest : (place : ℕ) → many ≤ place → getD after place 0 ≡ getD before place 0

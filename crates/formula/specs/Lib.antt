@@ -1,0 +1,4 @@
+pub mod Admission
+pub mod Operations
+pub mod Refusals
+pub mod Words

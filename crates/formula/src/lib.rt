@@ -1,0 +1,12 @@
+// Formulas as tables of words, and their admission.
+mod admission;
+mod admitted;
+mod operation;
+mod refusal;
+mod word;
+
+pub use admission::admit;
+pub use admitted::Formula;
+pub use operation::Operation;
+pub use refusal::Refusal;
+pub use word::Word;
