@@ -1,4 +1,5 @@
 pub mod Admission
+pub mod Formulas
 pub mod Operations
 pub mod Refusals
 pub mod Words

@@ -30,7 +30,7 @@ leafShape tell index =
     cond (eqb tell 0) (Variable index) (cond (eqb tell 1) (operationWord (operationOf index)) (cond (eqb tell 2) (Input index) NotAllowed))
 
 -- a word by its kind
-abbrev pub shape : ℕ → Word
+unfoldable pub shape : ℕ → Word
 shape word =
     cond (eqb (bitField word 30 2) 0) (Number (twosComplement (bitField word 0 30)))
     (cond (eqb (bitField word 30 2) 1) (leafShape (bitField word 28 2) (bitField word 0 28))

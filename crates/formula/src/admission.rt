@@ -1,14 +1,12 @@
 // Admission: a table of words is checked from place 0 upwards, and its binder counts are written.
-ghost use mathlib.Core.Path.{_≡_};
-ghost use Prim.Native.Nat.{ℕ, _+_, _<_, _≤_, _^_};
-ghost use lib.ListN.{length, getD};
-ghost use Rattle.std.specs.Results.{Cases};
-ghost use Rattle.formula.specs.Admission.{Admitted, Counted, FirstBad, GoodBefore, Refused, Sized, allBelow, bindersOf, countedBy, fault, named};
-ghost use Rattle.formula.specs.Refusals.{placeOf};
-ghost use Rattle.formula.specs.Words.{indexOf};
-ghost use Rattle.std.specs.Options.{isSome};
-ghost use Rattle.std.specs.Results.{errPart};
 ghost use mathlib.Core.Bool.{true};
+ghost use mathlib.Core.Path.{_≡_};
+ghost use Prim.Native.Nat.{_<_, _≤_, _^_};
+ghost use lib.ListN.{length, getD};
+ghost use Rattle.std.specs.Results.{Cases, errPart};
+ghost use Rattle.formula.specs.Admission.{Answers, Counted, GoodBefore, Refused, Sized, allBelow, bindersOf, countedBy, fault, named};
+ghost use Rattle.formula.specs.Formulas.{Filled};
+ghost use Rattle.formula.specs.Words.{indexOf};
 use crate::admitted::Formula;
 use crate::refusal::Refusal;
 use crate::word::Word;
@@ -68,9 +66,9 @@ pub fn admit<'a>(
     work: &mut [u32],
     formula: &mut Formula<'a>,
 ) -> Result<(), Refusal>
-    ensures answer { λ r. ⌜ Cases r (λ _. Admitted inputs (now (words .entry)) × (length (now (words .entry)) ≤ length (now (work .entry)))) (λ why. Refused inputs (now (words .entry)) (length (now (work .entry))) why) ⌝ }
+    ensures answer { λ r. ⌜ Answers inputs (now (words .entry)) (length (now (work .entry))) r ⌝ }
     ensures counts { λ r. ⌜ Counted (now (words .entry)) (countedBy (now (words .entry)) r) (now (work .entry)) (now (work .exit)) ⌝ }
-    ensures filled { λ r. ⌜ Cases r (λ _. (now (now (formula .exit) .words) ≡ now (words .entry)) × (now (formula .exit) .inputs ≡ inputs)) (λ _. now (formula .exit) ≡ now (formula .entry)) ⌝ }
+    ensures filled { λ r. ⌜ Filled (now (words .entry)) inputs (now (formula .entry)) (now (formula .exit)) r ⌝ }
 {
     if words.is_empty() || words.len() > MOST_WORDS {
         return Err(Refusal::WordCount);

@@ -1,7 +1,7 @@
-// A formula: a table of words whose type says that it was admitted.
+// A formula: words whose type says that they were admitted.
 ghost use denote.Ref.{now};
 ghost use lib.ListN.{length};
-ghost use Rattle.formula.specs.Admission.{Sized, GoodBefore, Closed};
+ghost use Rattle.formula.specs.Admission.{Closed, GoodBefore, Sized};
 
 #[derive(Clone, Copy)]
 pub struct Formula<'a> {

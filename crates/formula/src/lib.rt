@@ -1,6 +1,7 @@
 // Formulas as tables of words, and their admission.
 mod admission;
 mod admitted;
+mod methods;
 mod operation;
 mod refusal;
 mod word;

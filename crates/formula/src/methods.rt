@@ -1,0 +1,46 @@
+// What a formula shows.
+ghost use mathlib.Core.Bool.{false};
+ghost use mathlib.Core.List.{[], _∷_};
+ghost use mathlib.Core.Path.{_≡_};
+ghost use Prim.Native.Nat.{_<_, _≤_};
+ghost use lib.ListN.{length};
+ghost use Rattle.std.specs.Options.{Cases, isSome};
+ghost use Rattle.formula.specs.Admission.{Admitted, fault};
+ghost use Rattle.formula.specs.Formulas.{Holds, inputsOf, wordsOf};
+ghost use Rattle.formula.specs.Words.{shapeAt};
+use crate::admitted::Formula;
+use crate::word::Word;
+
+impl<'a> Formula<'a> {
+    // The number 7 with no inputs, which a host's formula holds before anything is admitted.
+    pub fn fresh() -> Formula<'a>
+        ensures { λ r. ⌜ Holds (7 ∷ []) 0 r ⌝ }
+    {
+        Formula {
+            words: &[7],
+            inputs: 0,
+        }
+    }
+
+    pub fn words(&self) -> &'a [u32]
+        ensures value { λ r. ⌜ now r ≡ wordsOf (now (self .entry)) ⌝ }
+        ensures admitted { λ r. ⌜ Admitted (inputsOf (now (self .entry))) (now r) ⌝ }
+    {
+        self.words
+    }
+
+    pub fn inputs(&self) -> u32
+        ensures { λ r. ⌜ r ≡ inputsOf (now (self .entry)) ⌝ }
+    {
+        self.inputs
+    }
+
+    // The word at a place, none past the root. It has passed its checks.
+    pub fn word(&self, place: u32) -> Option<Word>
+        ensures value { λ r. ⌜ Cases r (length (wordsOf (now (self .entry))) ≤ place) (λ word. (place < length (wordsOf (now (self .entry)))) × (word ≡ shapeAt (wordsOf (now (self .entry))) place)) ⌝ }
+        ensures good { λ r. ⌜ Cases r (Unit {0}) (λ word. isSome (fault (inputsOf (now (self .entry))) word place) ≡ false) ⌝ }
+    {
+        let word = self.words.get(place as usize)?;
+        Some(Word::decode(*word))
+    }
+}
