@@ -2,4 +2,5 @@ pub mod Admission
 pub mod Formulas
 pub mod Operations
 pub mod Refusals
+pub mod Spelling
 pub mod Words

@@ -1,0 +1,65 @@
+-- What a digit, and a line of eight, give back.
+use mathlib.Core.Path.{_≡_, sym, ap, _∙_}
+use mathlib.Core.List.{List, _∷_}
+use Prim.Native.Nat.{ℕ, _+_, _*_, _/_, _%_, _^_, _<_, _≤_}
+use native.Mathlib.Nat.{pow-succ', pow-le-pow-right}
+use native.Mathlib.Numerals.{add-one}
+use native.Mathlib.Omega.{arith}
+use lib.ListN.{length, getD, drop}
+use Rattle.std.proofs.shelf.Lists.{at-drop-more, at-drop-all}
+use Rattle.std.proofs.shelf.Tests.{cond-true, eq-eqb}
+use Rattle.std.proofs.shelf.Ways.{tells}
+use Rattle.std.specs.declared.option.Option.the-variants.{Some, None}
+use Rattle.hexline.specs.Hex.{digitValue, andThen, spelled, wordOf, digitOf, digitAt, lineOf}
+
+pub digit-below : (b d : ℕ) → digitValue b ≡ Some d → d < 16
+digit-below b d e = grind (arith, tells)
+
+digit-back : (n : ℕ) → n < 16 → digitValue (digitOf n) ≡ Some n
+digit-back n h = grind (arith, tells)
+
+-- one more digit of a number
+pub one-more : (i n d : ℕ) → n < 16 ^ i → d < 16 → 16 * n + d < 16 ^ (i + 1)
+one-more i n d small h = rw (add-one, pow-succ' 16 i) (omega arith)
+
+-- eight digits fit a word
+pub within : (i n d : ℕ) → n < 16 ^ i → d < 16 → i < 8 → 16 * n + d < 2 ^ 32
+within i n d small h lt =
+    let most : 16 ^ (i + 1) ≤ 16 ^ 8 = pow-le-pow-right {n = 16} (omega arith) {i = i + 1} {j = 8} (omega arith) in
+    omega (arith, one-more i n d small h, most)
+
+-- a digit of w carries its upper bits on to w's bits from k
+next : (n w k : ℕ) (bs : List ℕ) → 16 * n + w / 2 ^ k % 16 ≡ w / 2 ^ k → spelled n (digitAt w k ∷ bs) ≡ spelled (w / 2 ^ k) bs
+next n w k bs e =
+    ap (λ o. andThen o (λ d. spelled (16 * n + d) bs)) (digit-back (w / 2 ^ k % 16) (omega arith)) ∙ ap (λ m. spelled m bs) e
+
+pub word-back : (w : ℕ) → w < 2 ^ 32 → wordOf (lineOf w) ≡ Some w
+word-back w h =
+    let whole : w / 2 ^ 0 ≡ w = omega arith in
+    let rest : ℕ → List ℕ = λ i. drop i (lineOf w) in
+    next 0 w 28 (rest 1) (omega arith)
+    ∙ next (w / 2 ^ 28) w 24 (rest 2) (omega arith)
+    ∙ next (w / 2 ^ 24) w 20 (rest 3) (omega arith)
+    ∙ next (w / 2 ^ 20) w 16 (rest 4) (omega arith)
+    ∙ next (w / 2 ^ 16) w 12 (rest 5) (omega arith)
+    ∙ next (w / 2 ^ 12) w 8 (rest 6) (omega arith)
+    ∙ next (w / 2 ^ 8) w 4 (rest 7) (omega arith)
+    ∙ next (w / 2 ^ 4) w 0 (rest 8) (omega arith)
+    ∙ ap Some whole
+
+pub word-is : (line : List ℕ) → length line ≡ 8 → wordOf line ≡ spelled 0 line
+word-is line e = cond-true _ _ _ (eq-eqb (length line) 8 e)
+
+-- the line's meaning from its byte i on
+from-byte : (line : List ℕ) (n i : ℕ) → i < length line → spelled n (drop i line) ≡ andThen (digitValue (getD line i 0)) (λ d. spelled (16 * n + d) (drop (i + 1) line))
+from-byte line n i lt = at-drop-more (spelled n) line i 0 lt
+
+pub at-digit : (line : List ℕ) (n i d : ℕ) → i < length line → digitValue (getD line i 0) ≡ Some d → spelled (16 * n + d) (drop (i + 1) line) ≡ spelled n (drop i line)
+at-digit line n i d lt e =
+    sym (from-byte line n i lt ∙ ap (λ o. andThen o (λ d. spelled (16 * n + d) (drop (i + 1) line))) e)
+
+pub at-other : (line : List ℕ) (n i : ℕ) → i < length line → digitValue (getD line i 0) ≡ None → spelled n (drop i line) ≡ None
+at-other line n i lt e = from-byte line n i lt ∙ ap (λ o. andThen o (λ d. spelled (16 * n + d) (drop (i + 1) line))) e
+
+pub at-end : (line : List ℕ) (n i : ℕ) → length line ≤ i → spelled n (drop i line) ≡ Some n
+at-end line n i le = at-drop-all (spelled n) line i le

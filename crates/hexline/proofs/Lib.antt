@@ -1,0 +1,5 @@
+-- The lemmas that the functions' proofs share.
+mod Digits
+mod Cuts
+mod Steps
+mod Longer

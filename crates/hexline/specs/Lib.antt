@@ -1,0 +1,3 @@
+-- The meaning of a line of hexadecimal digits, and of a text of such lines.
+pub mod Hex
+pub mod Lines

@@ -1,0 +1,50 @@
+// A text of lines, one word each, read into a table.
+ghost use mathlib.Core.Path.{_≡_};
+ghost use mathlib.Core.List.{List, _∷_, _++_};
+ghost use Prim.Native.Nat.{ℕ, _*_, _<_};
+ghost use lib.ListN.{length};
+ghost use Rattle.hexline.specs.Lines.{linesOf, ReadInto};
+use crate::line::read;
+
+const NEWLINE: u8 = b'\n';
+
+// A line, numbered from 1, that is no word or has no place left in the table.
+#[derive(Clone, Copy, PartialEq, Eq, Debug)]
+pub struct BadLine {
+    pub number: usize,
+}
+
+// The first line of a text that is not empty, and what follows its newline.
+fn first_line(text: &[u8]) -> (&[u8], &[u8])
+    requires { ⌜ 0 < length (now text) ⌝ }
+    ensures cut { λ r. ⌜ linesOf (now (text .entry)) ≡ now (r .0) ∷ linesOf (now (r .1)) ⌝ }
+    ensures shorter { λ r. ⌜ length (now (r .1)) < length (now (text .entry)) ⌝ }
+{
+    for (i, byte) in text.iter().enumerate() {
+        if *byte == NEWLINE {
+            return (&text[0..i], &text[i + 1..]);
+        }
+    }
+    (text, &[])
+}
+
+// Reads the lines of `text` into the head of `table`, and says how many there were.
+// A text of more than nine bytes for each place decides the answer, whatever follows it.
+pub fn read_table(text: &[u8], table: &mut [u32]) -> Result<usize, BadLine>
+    ensures reads { λ r. ⌜ ReadInto (linesOf (now (text .entry))) (now (table .entry)) (now (table .exit)) r ⌝ }
+    ensures enough { λ r. ⌜ ((more : List ℕ) → 9 * length (now (table .entry)) < length (now (text .entry)) → ReadInto (linesOf (now (text .entry) ++ more)) (now (table .entry)) (now (table .exit)) r) ⌝ }
+{
+    let mut rest = text;
+    let mut count = 0;
+    while !rest.is_empty() {
+        let (line, after) = first_line(rest);
+        let bad = BadLine { number: count + 1 };
+        if count == table.len() {
+            return Err(bad);
+        }
+        table[count] = read(line).ok_or(bad)?;
+        count += 1;
+        rest = after;
+    }
+    Ok(count)
+}
