@@ -9,11 +9,11 @@ use Rattle.std.specs.Options.{isSome}
 use Rattle.std.specs.declared.option.Option.{Option}
 use Rattle.std.specs.declared.option.Option.the-variants.{Some, None}
 use Rattle.std.specs.declared.result.Result.{Result}
-use Rattle.std.specs.declared.result.Result.the-variants.{Err}
-use Rattle.formula.specs.Admission.{FirstBad, GoodBefore, Refused, Sized, allBelow, allowed, countedBy, fault, inputKnown, named}
+use Rattle.std.specs.declared.result.Result.the-variants.{Ok, Err}
+use Rattle.formula.specs.Admission.{Answers, FirstBad, Refused, Sized, allBelow, allowed, countedBy, fault, inputKnown, named}
 use Rattle.formula.specs.Words.{shapeAt}
 use Rattle.formula.specs.declared.refusal.Refusal.{Refusal}
-use Rattle.formula.specs.declared.refusal.Refusal.the-variants.{BadLeaf, PlaceNotBelow, NoSuchInput}
+use Rattle.formula.specs.declared.refusal.Refusal.the-variants.{WordCount, ShortTable, BadLeaf, PlaceNotBelow, NoSuchInput, NotClosed}
 use Rattle.formula.specs.declared.word.Word.{Word}
 
 -- the refusals that a word's own checks give
@@ -52,3 +52,13 @@ first-bad X inputs words room place why sized fits bad = at why (of-word inputs 
     at e leaf first = ((sized, fits, first), refl)
     at e below first = ((sized, fits, first), refl)
     at e input first = ((sized, fits, first), refl)
+
+-- no answer leaves more counts than there are words
+pub counted-within : {X : Type 0} (inputs : ℕ) (words : List ℕ) (room : ℕ) (r : Result X Refusal) → Answers inputs words room r → countedBy words r ≤ length words
+counted-within inputs words room (Ok x) a = omega arith
+counted-within inputs words room (Err WordCount) a = omega arith
+counted-within inputs words room (Err ShortTable) a = omega arith
+counted-within inputs words room (Err (BadLeaf place)) a = omega (arith, a .2 .within)
+counted-within inputs words room (Err (PlaceNotBelow place)) a = omega (arith, a .2 .within)
+counted-within inputs words room (Err (NoSuchInput place)) a = omega (arith, a .2 .within)
+counted-within inputs words room (Err (NotClosed place)) a = omega arith

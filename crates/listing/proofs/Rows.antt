@@ -2,18 +2,20 @@
 use mathlib.Core.Path.{_≡_, refl, sym, _∙_, ap}
 use mathlib.Core.Bool.{true, false}
 use mathlib.Core.List.{List, _++_}
-use Prim.Native.Nat.{ℕ, _+_, _<_}
+use Prim.Native.Nat.{ℕ, _+_, _-_, _<_, _≤_}
+use native.Mathlib.Omega.{arith}
 use native.Mathlib.Numerals.{add-one}
 use denote.Ref.{RefT, now}
 use lib.Dec.{ltb}
-use lib.ListN.{getD, length}
+use lib.ListN.{getD, length, length-take, take}
+use lib.Seq.{getD-take}
 use Rattle.std.proofs.shelf.Lists.{getD-read}
 use Rattle.std.proofs.shelf.Tests.{ltb-true}
 use Rattle.std.specs.Options.{isSome, mapped}
 use Rattle.std.specs.Slices.{found}
 use Rattle.std.specs.declared.option.Option.{Option}
 use Rattle.std.specs.declared.option.Option.the-variants.{Some, None}
-use Rattle.formula.specs.Admission.{binders}
+use Rattle.formula.specs.Admission.{Counted, binders}
 use Rattle.formula.specs.Words.{shapeAt}
 use Rattle.listing.specs.Report.{countAt, rowText, rowsText}
 
@@ -27,3 +29,13 @@ found-count words counts place (Some x) right some is =
 pub rows-more : (words : List ℕ) (counted place : ℕ) (count : Option ℕ) → count ≡ countAt words counted place → rowsText words counted place ++ rowText place (getD words place 0) (shapeAt words place) count ≡ rowsText words counted (place + 1)
 rows-more words counted place count e =
     ap (λ o. rowsText words counted place ++ rowText place (getD words place 0) (shapeAt words place) o) e ∙ ap (rowsText words counted) (sym (add-one place))
+
+module _ (words before work : List ℕ) (n many : ℕ) (counted : Counted words many before work) (whole : n ≡ many) where
+  -- the head of a work table holds the counts
+  pub head-counts : (place : ℕ) → place < length (take (n - 0) work) → getD (take (n - 0) work) place 0 ≡ binders words place
+  head-counts place h =
+      let under : place < n = omega (arith, length-take (n - 0) work) in
+      getD-take (n - 0) work place 0 (omega arith) ∙ counted .written place (omega arith)
+
+  pub head-length : many ≤ length work → length (take (n - 0) work) ≡ many
+  head-length fits = omega (arith, length-take (n - 0) work)

@@ -50,7 +50,7 @@ badLineText number = codes "bad line " ++ (decimal number ++ codes "\n")
 -- out lists the words and says how admission answered
 abbrev pub Listed : List ℕ → ℕ → List ℕ → Type 0
 Listed words inputs out =
-    (answer : Result (Unit {0}) Refusal) × Answers inputs words (length words) answer × (out ≡ rowsText words (countedBy words answer) (length words) ++ verdictText answer)
+    (answer : Result (Unit {0}) Refusal) × Answers inputs words 4096 answer × (out ≡ rowsText words (countedBy words answer) (length words) ++ verdictText answer)
 
 -- out is what is printed of a table that a text was read into
 abbrev pub Told : ℕ → List ℕ → Result ℕ BadLine → List ℕ → Type 0

@@ -9,14 +9,19 @@ ghost use Rattle.formula.specs.Admission.{binders, countedBy};
 ghost use Rattle.formula.specs.Words.{shape};
 ghost use Rattle.std.specs.declared.option.Option.the-variants.{Some};
 ghost use Rattle.listing.specs.Report.{Listed, Reported, badLineText, countText, rowText, rowsText, verdictText};
+use formula::Formula;
 use formula::Refusal;
 use formula::Word;
 use formula::WordDisplay;
+use formula::admit;
 use hexline::BadLine;
+use hexline::read_table;
 use std::alloc::AllocError;
 use std::alloc::Global;
 use std::fmt;
 use std::str;
+
+pub const MOST_LINES: usize = 4096;
 
 // A binder count, if admission wrote one.
 #[derive(Drop)]
@@ -87,4 +92,30 @@ fn rows(heap: Global, words: &[u32], counts: &[u32]) -> Result<String, AllocErro
         out.push_str(line.as_str())?;
     }
     Ok(out)
+}
+
+// The rows of the words, and how admission answers.
+fn list(heap: Global, words: &[u32], inputs: u32) -> Result<String, AllocError>
+    requires { ⌜ length (now words) ≤ 4096 ⌝ }
+    ensures { λ r. ⌜ made r (λ out. Listed (now (words .entry)) inputs (string-bytes out)) ⌝ }
+{
+    let mut work = [0; MOST_LINES];
+    let mut formula = Formula::fresh();
+    let answer = admit(words, inputs, &mut work, &mut formula);
+    let mut out = rows(heap, words, &work[0..counted(words, answer)])?;
+    out.push_str(verdict(heap, answer)?.as_str())?;
+    Ok(out)
+}
+
+// What is printed of a text, for so many inputs. A text of more than nine bytes a line decides
+// it, whatever follows.
+pub fn report(heap: Global, text: &[u8], inputs: u32) -> Result<String, AllocError>
+    ensures reported { λ r. ⌜ made r (λ out. Reported (now (text .entry)) inputs (string-bytes out)) ⌝ }
+    ensures enough { λ r. ⌜ made r (λ out. (more : List ℕ) → 36864 < length (now (text .entry)) → Reported (now (text .entry) ++ more) inputs (string-bytes out)) ⌝ }
+{
+    let mut table = [0; MOST_LINES];
+    match read_table(text, &mut table) {
+        Ok(count) => list(heap, &table[0..count], inputs),
+        Err(bad) => bad_line(heap, bad),
+    }
 }
