@@ -51,17 +51,20 @@ pub good-more : (inputs : ℕ) (words : List ℕ) (place : ℕ) → GoodBefore i
 good-more inputs words place good here = below-more (λ p. isSome (fault inputs (shapeAt words p) p) ≡ false) place good here
 
 -- and its count is written
-pub counted-more : (inputs : ℕ) (words before work : List ℕ) (place count : ℕ) → GoodBefore inputs words (place + 1) → place < length work → count ≡ bindersOf (shapeAt words place) (λ p. getD work p 0) → Counted words place before work → Counted words (place + 1) before (set work place count)
-counted-more inputs words before work place count good within right old = record {
+pub counted-more : (inputs : ℕ) (words before work : List ℕ) (place : ℕ) → GoodBefore inputs words (place + 1) → place < length work → Counted words place before work → Counted words (place + 1) before (set work place (bindersOf (shapeAt words place) (λ p. getD work p 0)))
+counted-more inputs words before work place good within old = record {
   written = below-more (λ p. getD (set work place count) p 0 ≡ binders words p) place
       (λ p below. let apart : p ≢ place = omega arith in rw getD-set-other (old .written p below))
       (rw getD-set-same here);
   rest = λ p above. let apart : p ≢ place = omega arith in rw getD-set-other (old .rest p (omega arith));
 }
   where
+    count : ℕ
+    count = bindersOf (shapeAt words place) (λ p. getD work p 0)
+
     upto : GoodBefore inputs words (suc place)
     upto = λ p below. good p (omega arith)
 
     here : count ≡ binders words place
     here =
-        right ∙ same-count (shapeAt words place) place (λ p. getD work p 0) (binders words) (names-below inputs (shapeAt words place) place (upto place (omega arith))) (old .written) ∙ sym (count-by-named inputs words place upto)
+        same-count (shapeAt words place) place (λ p. getD work p 0) (binders words) (names-below inputs (shapeAt words place) place (upto place (omega arith))) (old .written) ∙ sym (count-by-named inputs words place upto)

@@ -2,5 +2,4 @@ pub mod Admission
 pub mod Formulas
 pub mod Operations
 pub mod Refusals
-pub mod Spelling
 pub mod Words

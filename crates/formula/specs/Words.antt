@@ -29,12 +29,16 @@ abbrev pub leafShape : ℕ → ℕ → Word
 leafShape tell index =
     cond (eqb tell 0) (Variable index) (cond (eqb tell 1) (operationWord (operationOf index)) (cond (eqb tell 2) (Input index) NotAllowed))
 
--- a word by its kind
+-- a word of a kind
+abbrev pub kindShape : ℕ → ℕ → Word
+kindShape kind word =
+    cond (eqb kind 0) (Number (twosComplement (bitField word 0 30)))
+    (cond (eqb kind 1) (leafShape (bitField word 28 2) (bitField word 0 28))
+    (cond (eqb kind 2) (Abstraction (bitField word 0 30)) (Application (bitField word 15 15) (bitField word 0 15))))
+
+-- the top two bits are the kind
 unfoldable pub shape : ℕ → Word
-shape word =
-    cond (eqb (bitField word 30 2) 0) (Number (twosComplement (bitField word 0 30)))
-    (cond (eqb (bitField word 30 2) 1) (leafShape (bitField word 28 2) (bitField word 0 28))
-    (cond (eqb (bitField word 30 2) 2) (Abstraction (bitField word 0 30)) (Application (bitField word 15 15) (bitField word 0 15))))
+shape word = kindShape (bitField word 30 2) word
 
 -- the shape of the word at a place
 abbrev pub shapeAt : List ℕ → ℕ → Word

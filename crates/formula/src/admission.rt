@@ -1,12 +1,12 @@
 // Admission: a table of words is checked from place 0 upwards, and its binder counts are written.
-ghost use mathlib.Core.Bool.{true};
+ghost use mathlib.Core.Bool.{cond, true};
 ghost use mathlib.Core.Path.{_≡_};
 ghost use Prim.Native.Nat.{_<_, _≤_, _^_};
-ghost use lib.ListN.{length, getD};
-ghost use Rattle.std.specs.Results.{Cases, errPart};
+ghost use lib.ListN.{getD, length, set};
+ghost use Rattle.std.specs.Results.{Cases, errPart, isOk};
 ghost use Rattle.formula.specs.Admission.{Answers, Counted, GoodBefore, Refused, Sized, allBelow, bindersOf, countedBy, fault, named};
 ghost use Rattle.formula.specs.Formulas.{Filled};
-ghost use Rattle.formula.specs.Words.{indexOf};
+ghost use Rattle.formula.specs.Words.{indexOf, shape};
 use crate::admitted::Formula;
 use crate::refusal::Refusal;
 use crate::word::Word;
@@ -44,7 +44,20 @@ fn binders(word: Word, counts: &[u32]) -> u32
     }
 }
 
-// Checks the words in turn and writes their binder counts.
+// Checks one word and writes its binder count.
+fn count_word(word: u32, place: usize, inputs: u32, work: &mut [u32]) -> Result<(), Refusal>
+    requires few { ⌜ place < 32768 ⌝ }
+    requires room { ⌜ place < length (now work) ⌝ }
+    ensures answer { λ r. ⌜ errPart r ≡ fault inputs (shape word) place ⌝ }
+    ensures count { λ r. ⌜ now (work .exit) ≡ cond (isOk r) (set (now (work .entry)) place (bindersOf (shape word) (λ p. getD (now (work .entry)) p 0))) (now (work .entry)) ⌝ }
+{
+    let word = Word::decode(word);
+    check(word, place as u32, inputs)?;
+    work[place] = binders(word, work);
+    Ok(())
+}
+
+// Checks the words from place 0 upwards and writes their binder counts.
 fn count(words: &[u32], inputs: u32, work: &mut [u32]) -> Result<(), Refusal>
     requires sized { ⌜ Sized (now words) ⌝ }
     requires room { ⌜ length (now words) ≤ length (now work) ⌝ }
@@ -52,9 +65,7 @@ fn count(words: &[u32], inputs: u32, work: &mut [u32]) -> Result<(), Refusal>
     ensures counts { λ r. ⌜ Counted (now (words .entry)) (countedBy (now (words .entry)) r) (now (work .entry)) (now (work .exit)) ⌝ }
 {
     for (place, word) in words.iter().enumerate() {
-        let word = Word::decode(*word);
-        check(word, place as u32, inputs)?;
-        work[place] = binders(word, work);
+        count_word(*word, place, inputs, work)?;
     }
     Ok(())
 }

@@ -4,13 +4,13 @@ mod admitted;
 mod methods;
 mod operation;
 mod refusal;
-mod spelling;
 mod word;
 
 pub use admission::admit;
 pub use admitted::Formula;
 pub use operation::Operation;
 pub use refusal::Refusal;
-pub use spelling::OperationDisplay;
-pub use spelling::WordDisplay;
 pub use word::Word;
+
+#[cfg(test)]
+mod tests;

@@ -40,7 +40,9 @@ impl<'a> Formula<'a> {
         ensures value { λ r. ⌜ Cases r (length (wordsOf (now (self .entry))) ≤ place) (λ word. (place < length (wordsOf (now (self .entry)))) × (word ≡ shapeAt (wordsOf (now (self .entry))) place)) ⌝ }
         ensures good { λ r. ⌜ Cases r (Unit {0}) (λ word. isSome (fault (inputsOf (now (self .entry))) word place) ≡ false) ⌝ }
     {
-        let word = self.words.get(place as usize)?;
-        Some(Word::decode(*word))
+        if place as usize >= self.words.len() {
+            return None;
+        }
+        Some(Word::decode(self.words[place as usize]))
     }
 }

@@ -1,12 +1,10 @@
 // The shapes of a 32-bit word.
 ghost use mathlib.Core.Path.{_≡_};
-ghost use Rattle.formula.specs.Words.{bitField, indexOf, leafShape, shape, twosComplement};
+ghost use Rattle.formula.specs.Words.{bitField, indexOf, kindShape, leafShape, shape, twosComplement};
 ghost use Prim.Native.Nat.{_<_, _^_};
 use crate::operation::Operation;
-use crate::operation::OperationDebug;
-use crate::operation::OperationPartialEq;
 
-#[derive(Clone, Copy, PartialEq, Eq, Debug)]
+#[derive(Clone, Copy)]
 pub enum Word {
     Number(i32),
     Variable(u32),
@@ -22,17 +20,24 @@ impl Word {
         ensures shape { λ r. ⌜ r ≡ shape word ⌝ }
         ensures index { λ r. ⌜ indexOf r < 2 ^ 28 ⌝ }
     {
-        match bits(word, 30, 2) {
-            0 => Word::Number(signed(bits(word, 0, 30))),
-            1 => leaf(bits(word, 28, 2), bits(word, 0, 28)),
-            2 => Word::Abstraction {
-                body: bits(word, 0, 30),
-            },
-            _ => Word::Application {
-                function: bits(word, 15, 15),
-                argument: bits(word, 0, 15),
-            },
-        }
+        of_kind(bits(word, 30, 2), word)
+    }
+}
+
+fn of_kind(kind: u32, word: u32) -> Word
+    ensures shape { λ r. ⌜ r ≡ kindShape kind word ⌝ }
+    ensures index { λ r. ⌜ indexOf r < 2 ^ 28 ⌝ }
+{
+    match kind {
+        0 => Word::Number(signed(bits(word, 0, 30))),
+        1 => leaf(bits(word, 28, 2), bits(word, 0, 28)),
+        2 => Word::Abstraction {
+            body: bits(word, 0, 30),
+        },
+        _ => Word::Application {
+            function: bits(word, 15, 15),
+            argument: bits(word, 0, 15),
+        },
     }
 }
 

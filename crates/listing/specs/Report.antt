@@ -13,7 +13,7 @@ use Rattle.std.specs.declared.result.Result.{Result}
 use Rattle.std.specs.declared.result.Result.the-variants.{Ok, Err}
 use Rattle.formula.specs.Admission.{Answers, binders, countedBy}
 use Rattle.formula.specs.Refusals.{numberOf, placeOf}
-use Rattle.formula.specs.Spelling.{inWords}
+use Rattle.listing.specs.Spelling.{inWords}
 use Rattle.formula.specs.Words.{shapeAt}
 use Rattle.formula.specs.declared.Refusal.{Refusal}
 use Rattle.formula.specs.declared.Word.{Word}

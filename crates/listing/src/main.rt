@@ -1,5 +1,6 @@
 // Lists a formula: each word with its shape and its binder count, and whether it is admitted.
 mod report;
+mod spelling;
 
 use report::MOST_LINES;
 use report::report;

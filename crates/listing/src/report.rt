@@ -12,9 +12,10 @@ ghost use Rattle.listing.specs.Report.{Listed, Reported, badLineText, countTex
 use formula::Formula;
 use formula::Refusal;
 use formula::Word;
-use formula::WordDisplay;
 use formula::admit;
 use hexline::BadLine;
+use crate::spelling::Shape;
+use crate::spelling::ShapeDisplay;
 use hexline::read_table;
 use std::alloc::AllocError;
 use std::alloc::Global;
@@ -43,7 +44,7 @@ fn row(heap: Global, place: usize, word: u32, binders: Option<u32>) -> Result<St
 {
     let digits = hexline::write(word);
     let line = str::from_utf8(&digits).unwrap();
-    let shape = Word::decode(word);
+    let shape = Shape(Word::decode(word));
     let count = Count(binders);
     format!(heap, "{place} {line} {shape}, {count}\n")
 }

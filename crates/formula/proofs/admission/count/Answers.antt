@@ -1,31 +1,35 @@
-use mathlib.Core.Path.{_≡_, sym, _∙_, ap, subst}
-use Prim.Native.Nat.{ℕ}
+use mathlib.Core.Path.{sym, ap, subst}
+use mathlib.Core.List.{List}
+use Prim.Native.Nat.{ℕ, _+_}
 use native.Mathlib.Omega.{arith}
-use lib.ListN.{getD}
 use Rattle.std.proofs.shelf.Results.{err-from-errBy}
 use Rattle.std.specs.Options.{isSome}
-use Rattle.formula.specs.Admission.{Counted, bindersOf, fault}
+use Rattle.formula.specs.Admission.{Counted, FirstBad}
 use Rattle.formula.proofs.Counts.{counted-more, good-more}
 use Rattle.formula.proofs.Faults.{first-bad}
 use Rattle.formula.proofs.admission.count.Needs as need
 
-pub returns-in-Break-check : need.returns-in-Break-check
-returns-in-Break-check c =
+pub returns-in-Break-count-word : need.returns-in-Break-count-word
+returns-in-Break-count-word c =
     let words = c .args .words .now in
+    let before = c .args .work .now in
     let place = c .loop-place .place in
+    let why = c .in-Break-count-word .field-0 .0 in
+    let told = c .in-Break-count-word .ensures tt in
+    let here : FirstBad (c .args .inputs) words place why = record { within = omega arith; before = c .loop-place .inv .0; here = sym (told .answer) } in
+    let bad = first-bad (Unit {0}) (c .args .inputs) words _ place why (c .pre .sized) (c .pre .room) here in
+    let same = subst (λ (work : List ℕ). Counted words place before work) (sym (told .count)) (c .loop-place .inv .1) in
     let p = err-from-errBy (c .from-residual .result) (c .from-residual .ensures .1) in
-    let here = sym (c .in-Break-check .ensures tt ∙ ap (λ w. fault (c .args .inputs) w place) (c .decode-word .ensures .shape)) in
-    let bad = first-bad (Unit {0}) (c .args .inputs) words _ place (c .in-Break-check .field-0 .0) (c .pre .sized) (c .pre .room) (record { within = omega arith; before = c .loop-place .inv .0; here = here }) in
-    rw (p .1, p .2) (record { answer = bad .0; counts = subst (λ (many : ℕ). Counted words many (c .args .work .now) (c .loop-place .work)) (sym (bad .1)) (c .loop-place .inv .1) })
+    rw (p .1, p .2) (record { answer = bad .0; counts = subst (λ (many : ℕ). Counted words many before (c .count-word .last .work)) (sym (bad .1)) same })
 
 pub loop-place-again : need.loop-place-again
 loop-place-again c =
     let inputs = c .args .inputs in
     let words = c .args .words .now in
+    let before = c .args .work .now in
     let work = c .loop-place .work in
     let place = c .loop-place .place in
-    let shape = c .decode-word .ensures .shape in
-    let passed = ap isSome (sym (c .in-Continue-check .ensures tt ∙ ap (λ w. fault inputs w place) shape)) in
-    let good = good-more inputs words place (c .loop-place .inv .0) passed in
-    let right = c .binders .ensures ∙ ap (λ w. bindersOf w (λ p. getD work p 0)) shape in
-    (good, counted-more inputs words (c .args .work .now) work place (c .binders .result) good (omega arith) right (c .loop-place .inv .1))
+    let told = c .in-Continue-count-word .ensures tt in
+    let good = good-more inputs words place (c .loop-place .inv .0) (ap isSome (sym (told .answer))) in
+    let counted = counted-more inputs words before work place good (omega arith) (c .loop-place .inv .1) in
+    (good, subst (λ (work : List ℕ). Counted words (place + 1) before work) (sym (told .count)) counted)

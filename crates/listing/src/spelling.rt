@@ -1,15 +1,20 @@
 // Operations and shapes in words.
 ghost use Rattle.std.specs.declared.option.Option.the-variants.{Some};
-ghost use Rattle.formula.specs.Spelling.{inWords, nameOf};
-use crate::operation::Operation;
-use crate::word::Word;
+ghost use Rattle.listing.specs.Spelling.{inWords, nameOf};
+use formula::Operation;
+use formula::Word;
 use std::fmt;
 
-pub impl fmt::Display for Operation as OperationDisplay {
-    ghost shown = { λ operation. Some (nameOf operation) };
+// An operation, shown by its name.
+#[derive(Drop)]
+pub struct Name(pub Operation);
+
+pub impl fmt::Display for Name as NameDisplay {
+    ghost shown = { λ name. Some (nameOf (name .0)) };
 
     fn fmt<W: fmt::Write>(&self, f: &mut fmt::Formatter<W>) -> fmt::Result {
-        let name = match self {
+        let Name(operation) = self;
+        let name = match operation {
             Operation::Add => "add",
             Operation::Sub => "sub",
             Operation::Mul => "mul",
@@ -21,14 +26,22 @@ pub impl fmt::Display for Operation as OperationDisplay {
     }
 }
 
-pub impl fmt::Display for Word as WordDisplay {
-    ghost shown = { λ word. Some (inWords word) };
+// A word, shown by its shape.
+#[derive(Drop)]
+pub struct Shape(pub Word);
+
+pub impl fmt::Display for Shape as ShapeDisplay {
+    ghost shown = { λ shape. Some (inWords (shape .0)) };
 
     fn fmt<W: fmt::Write>(&self, f: &mut fmt::Formatter<W>) -> fmt::Result {
-        match self {
+        let Shape(word) = self;
+        match word {
             Word::Number(n) => write!(f, "number {n}"),
             Word::Variable(index) => write!(f, "variable {index}"),
-            Word::Operation(operation) => write!(f, "operation {operation}"),
+            Word::Operation(operation) => {
+                let name = Name(*operation);
+                write!(f, "operation {name}")
+            }
             Word::Input(index) => write!(f, "input {index}"),
             Word::Abstraction { body } => write!(f, "abstraction of {body}"),
             Word::Application { function, argument } => {

@@ -3,10 +3,10 @@ use mathlib.Core.List.{List, _++_}
 use Prim.Native.Nat.{ℕ}
 use lib.Chars.{codes}
 use Rattle.std.specs.Written.{decimal, signed}
-use Rattle.formula.specs.declared.operation.Operation.{Operation}
-use Rattle.formula.specs.declared.operation.Operation.the-variants.{Add, Sub, Mul, Div, Min, Max}
-use Rattle.formula.specs.declared.word.Word.{Word}
-use Rattle.formula.specs.declared.word.Word.the-variants.{Number, Variable, Operation as Op, Input, Abstraction, Application, NotAllowed}
+use Rattle.formula.specs.declared.Operation.{Operation}
+use Rattle.formula.specs.declared.Operation.the-variants.{Add, Sub, Mul, Div, Min, Max}
+use Rattle.formula.specs.declared.Word.{Word}
+use Rattle.formula.specs.declared.Word.the-variants.{Number, Variable, Operation as Op, Input, Abstraction, Application, NotAllowed}
 
 abbrev pub nameOf : Operation → List ℕ
 nameOf Add = codes "add"
