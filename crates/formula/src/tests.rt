@@ -33,7 +33,10 @@ fn sizes(rt: LibcRuntime) -> Result<(), Fail> {
     let mut work = vec![in heap; 9u32; 32_769]?;
     check(words.len() == 32_769)?;
     check_eq(answer(&[], work.as_mut_slice()), Err(Refusal::WordCount))?;
-    check_eq(answer(words.as_slice(), work.as_mut_slice()), Err(Refusal::WordCount))?;
+    check_eq(
+        answer(words.as_slice(), work.as_mut_slice()),
+        Err(Refusal::WordCount),
+    )?;
     check_eq(work.first().copied(), Some(9))?;
     check_eq(answer(&words[0..32_768], work.as_mut_slice()), Ok(()))?;
     check_eq(work.first().copied(), Some(0))
@@ -43,8 +46,14 @@ fn sizes(rt: LibcRuntime) -> Result<(), Fail> {
 fn refusals_leave_the_formula() -> Result<(), Fail> {
     let mut work = [9; 2];
     let mut formula = Formula::fresh();
-    check_eq(admit(&DOUBLED, 0, &mut work, &mut formula), Err(Refusal::ShortTable))?;
-    check_eq(admit(&[7, 0x4000_0000], 0, &mut work, &mut formula), Err(Refusal::NotClosed(1)))?;
+    check_eq(
+        admit(&DOUBLED, 0, &mut work, &mut formula),
+        Err(Refusal::ShortTable),
+    )?;
+    check_eq(
+        admit(&[7, 0x4000_0000], 0, &mut work, &mut formula),
+        Err(Refusal::NotClosed(1)),
+    )?;
     check_eq(work, [0, 1])?;
     check_eq(formula.words(), &[7])
 }

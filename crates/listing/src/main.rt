@@ -34,3 +34,6 @@ fn run(rt: &LibcRuntime) -> Result<(), AnyError> {
 fn main(rt: LibcRuntime) -> Result<(), AnyError> {
     rt.report(run(&rt))
 }
+
+#[cfg(test)]
+mod tests;

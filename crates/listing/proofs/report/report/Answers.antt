@@ -15,7 +15,7 @@ returns-in-Ok c =
     let table = c .read-table .last .table in
     let lines = Ok (c .in-Ok .count) in
     let listed : (out : List ℕ) → Listed (take (c .in-Ok .count - 0) table) (c .args .inputs) out → Listed (take (c .in-Ok .count) table) (c .args .inputs) out =
-        λ out h. subst (λ (n : ℕ). Listed (take n table) (c .args .inputs) out) (sub-zero (c .in-Ok .count)) h in
+    λ out h. subst (λ (n : ℕ). Listed (take n table) (c .args .inputs) out) (sub-zero (c .in-Ok .count)) h in
     record {
       reported = made-weaker (c .list .result) _ _ (λ out h. (table, lines, c .in-Ok .ensures tt .reads, listed (string-bytes out) h)) (c .list .ensures);
       enough = made-weaker (c .list .result) _ _ (λ out h more long. (table, lines, c .in-Ok .ensures tt .enough more (omega arith), listed (string-bytes out) h)) (c .list .ensures);
