@@ -11,14 +11,15 @@ use lib.ListN.{length, getD, set}
 use lib.Seq.{getD-set-same, getD-set-other}
 use Rattle.std.specs.Options.{isSome}
 use Rattle.std.proofs.shelf.Ways.{tells}
-use Rattle.formula.specs.Admission.{Counted, GoodBefore, allBelow, binders, bindersOf, bindersWithin, fault, named}
+use Rattle.formula.specs.Admission.{Counted, GoodBefore, allBelow, fault}
+use Rattle.formula.specs.Binders.{binders, bindersOf, bindersWithin, namedPlaces}
 use Rattle.formula.specs.Words.{shapeAt}
 use Rattle.formula.specs.declared.word.Word.{Word}
 use Rattle.formula.specs.declared.word.Word.the-variants.{Number, Variable, Operation as Op, Input, Abstraction, Application, NotAllowed}
 use Rattle.formula.proofs.Faults.{names-below}
 
 -- counts that agree below a place give the same count to a word that names places below it
-pub same-count : (word : Word) (place : ℕ) (f g : ℕ → ℕ) → allBelow place (named word) ≡ true → ((p : ℕ) → p < place → f p ≡ g p) → bindersOf word f ≡ bindersOf word g
+pub same-count : (word : Word) (place : ℕ) (f g : ℕ → ℕ) → allBelow place (namedPlaces word) ≡ true → ((p : ℕ) → p < place → f p ≡ g p) → bindersOf word f ≡ bindersOf word g
 same-count (Number n) place f g below same = refl
 same-count (Variable i) place f g below same = refl
 same-count (Op op) place f g below same = refl
@@ -50,12 +51,20 @@ count-by-named inputs words place good =
 pub good-more : (inputs : ℕ) (words : List ℕ) (place : ℕ) → GoodBefore inputs words place → isSome (fault inputs (shapeAt words place) place) ≡ false → GoodBefore inputs words (place + 1)
 good-more inputs words place good here = below-more (λ p. isSome (fault inputs (shapeAt words p) p) ≡ false) place good here
 
+-- counts that are written as the definition has them follow from the counts of named places
+by-named : (inputs : ℕ) (words table : List ℕ) (many : ℕ) → GoodBefore inputs words many → ((p : ℕ) → p < many → getD table p 0 ≡ binders words p) → (place : ℕ) → place < many → getD table place 0 ≡ bindersOf (shapeAt words place) (λ p. getD table p 0)
+by-named inputs words table many good written place under =
+    written place under
+    ∙ count-by-named inputs words place (λ q below. good q (omega arith))
+    ∙ same-count (shapeAt words place) place (binders words) (λ p. getD table p 0)
+    (names-below inputs (shapeAt words place) place (good place under))
+    (λ p below. sym (written p (omega arith)))
+
 -- and its count is written
 pub counted-more : (inputs : ℕ) (words before work : List ℕ) (place : ℕ) → GoodBefore inputs words (place + 1) → place < length work → Counted words place before work → Counted words (place + 1) before (set work place (bindersOf (shapeAt words place) (λ p. getD work p 0)))
 counted-more inputs words before work place good within old = record {
-  written = below-more (λ p. getD (set work place count) p 0 ≡ binders words p) place
-      (λ p below. let apart : p ≢ place = omega arith in rw getD-set-other (old .written p below))
-      (rw getD-set-same here);
+  written = all;
+  named = by-named inputs words (set work place count) (place + 1) good all;
   rest = λ p above. let apart : p ≢ place = omega arith in rw getD-set-other (old .rest p (omega arith));
 }
   where
@@ -67,4 +76,10 @@ counted-more inputs words before work place good within old = record {
 
     here : count ≡ binders words place
     here =
-        same-count (shapeAt words place) place (λ p. getD work p 0) (binders words) (names-below inputs (shapeAt words place) place (upto place (omega arith))) (old .written) ∙ sym (count-by-named inputs words place upto)
+        same-count (shapeAt words place) place (λ p. getD work p 0) (binders words) (names-below inputs (shapeAt words place) place (upto place (omega arith))) (old .written)
+        ∙ sym (count-by-named inputs words place upto)
+
+    all : (p : ℕ) → p < place + 1 → getD (set work place count) p 0 ≡ binders words p
+    all = below-more (λ p. getD (set work place count) p 0 ≡ binders words p) place
+        (λ p below. let apart : p ≢ place = omega arith in rw getD-set-other (old .written p below))
+        (rw getD-set-same here)

@@ -10,7 +10,8 @@ use Rattle.std.specs.declared.option.Option.{Option}
 use Rattle.std.specs.declared.option.Option.the-variants.{Some, None}
 use Rattle.std.specs.declared.result.Result.{Result}
 use Rattle.std.specs.declared.result.Result.the-variants.{Ok, Err}
-use Rattle.formula.specs.Admission.{Answers, FirstBad, Refused, Sized, allBelow, allowed, countedBy, fault, inputKnown, named}
+use Rattle.formula.specs.Admission.{Answers, FirstBad, Refused, Sized, allBelow, allowed, countedBy, fault, inputKnown}
+use Rattle.formula.specs.Binders.{namedPlaces}
 use Rattle.formula.specs.Words.{shapeAt}
 use Rattle.formula.specs.declared.refusal.Refusal.{Refusal}
 use Rattle.formula.specs.declared.refusal.Refusal.the-variants.{WordCount, ShortTable, BadLeaf, PlaceNotBelow, NoSuchInput, NotClosed}
@@ -33,7 +34,7 @@ some-check place true false i why h = let e : PlaceNotBelow place ≡ why = cc i
 some-check place false b i why h = let e : BadLeaf place ≡ why = cc in subst (OfWord place) e leaf
 
 of-word : (inputs : ℕ) (word : Word) (place : ℕ) (why : Refusal) → fault inputs word place ≡ Some why → OfWord place why
-of-word inputs word place = some-check place (allowed word) (allBelow place (named word)) (inputKnown inputs word)
+of-word inputs word place = some-check place (allowed word) (allBelow place (namedPlaces word)) (inputKnown inputs word)
 
 all-below : (place : ℕ) (l b i : Bool) → isSome (checked place l b i) ≡ false → b ≡ true
 all-below place true true i h = refl
@@ -41,8 +42,8 @@ all-below place true false i h = cc
 all-below place false b i h = let z : _≡_ {A = Bool} true false = h in grind arith
 
 -- a word that passes its checks names places below its own
-pub names-below : (inputs : ℕ) (word : Word) (place : ℕ) → isSome (fault inputs word place) ≡ false → allBelow place (named word) ≡ true
-names-below inputs word place = all-below place (allowed word) (allBelow place (named word)) (inputKnown inputs word)
+pub names-below : (inputs : ℕ) (word : Word) (place : ℕ) → isSome (fault inputs word place) ≡ false → allBelow place (namedPlaces word) ≡ true
+names-below inputs word place = all-below place (allowed word) (allBelow place (namedPlaces word)) (inputKnown inputs word)
 
 -- the first bad word is refused by the check that it fails, with the counts before it written
 pub first-bad : (X : Type 0) (inputs : ℕ) (words : List ℕ) (room place : ℕ) (why : Refusal) → Sized words → length words ≤ room → FirstBad inputs words place why → Refused inputs words room why × (countedBy {X = X} words (Err why) ≡ place)

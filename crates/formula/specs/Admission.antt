@@ -2,8 +2,7 @@
 use mathlib.Core.Path.{_≡_}
 use mathlib.Core.Bool.{Bool, true, false, cond, _&&_}
 use mathlib.Core.List.{List, [], _∷_}
-use mathlib.Core.Logic.{_⊎_}
-use Prim.Native.Nat.{ℕ, zero, suc, _+_, _-_, _<_, _≤_, max}
+use Prim.Native.Nat.{ℕ, _<_, _≤_}
 use lib.Dec.{ltb}
 use lib.ListN.{length, getD}
 use Rattle.std.specs.Options.{isSome}
@@ -15,35 +14,8 @@ use Rattle.formula.specs.declared.refusal.Refusal.{Refusal}
 use Rattle.formula.specs.declared.refusal.Refusal.the-variants.{WordCount, ShortTable, BadLeaf, PlaceNotBelow, NoSuchInput, NotClosed}
 use Rattle.formula.specs.declared.word.Word.{Word}
 use Rattle.formula.specs.declared.word.Word.the-variants.{Number, Variable, Operation as Op, Input, Abstraction, Application, NotAllowed}
+use Rattle.formula.specs.Binders.{Closed, binders, bindersOf, namedPlaces, root}
 use Rattle.formula.specs.Words.{shapeAt}
-
--- the places that a word names
-abbrev pub named : Word → List ℕ
-named (Abstraction body) = body ∷ []
-named (Application function argument) = function ∷ argument ∷ []
-named (Number n) = []
-named (Variable i) = []
-named (Op op) = []
-named (Input i) = []
-named NotAllowed = []
-
--- the binder count of a word, from the counts of the places that it names
-abbrev pub bindersOf : Word → (ℕ → ℕ) → ℕ
-bindersOf (Variable i) count = i + 1
-bindersOf (Abstraction body) count = count body - 1
-bindersOf (Application function argument) count = max (count function) (count argument)
-bindersOf (Number n) count = 0
-bindersOf (Op op) count = 0
-bindersOf (Input i) count = 0
-bindersOf NotAllowed count = 0
-
--- The binder count of a place. Named places are below their own, so one more turn than the place's number suffices.
-abbrev pub bindersWithin : List ℕ → ℕ → ℕ → ℕ
-bindersWithin words zero place = 0
-bindersWithin words (suc turns) place = bindersOf (shapeAt words place) (bindersWithin words turns)
-
-abbrev pub binders : List ℕ → ℕ → ℕ
-binders words place = bindersWithin words (suc place) place
 
 abbrev pub allowed : Word → Bool
 allowed NotAllowed = false
@@ -71,7 +43,7 @@ inputKnown inputs NotAllowed = true
 abbrev pub fault : ℕ → Word → ℕ → Option Refusal
 fault inputs word place =
     cond (allowed word)
-    (cond (allBelow place (named word)) (cond (inputKnown inputs word) None (Some (NoSuchInput place))) (Some (PlaceNotBelow place)))
+    (cond (allBelow place (namedPlaces word)) (cond (inputKnown inputs word) None (Some (NoSuchInput place))) (Some (PlaceNotBelow place)))
     (Some (BadLeaf place))
 
 abbrev pub Sized : List ℕ → Type 0
@@ -80,12 +52,6 @@ Sized words = (0 < length words) × (length words ≤ 32768)
 -- the words before a place pass their checks
 abbrev pub GoodBefore : ℕ → List ℕ → ℕ → Type 0
 GoodBefore inputs words end = (place : ℕ) → place < end → isSome (fault inputs (shapeAt words place) place) ≡ false
-
-abbrev pub root : List ℕ → ℕ
-root words = length words - 1
-
-abbrev pub Closed : List ℕ → Type 0
-Closed words = binders words (root words) ≡ 0
 
 -- the words are a formula of so many inputs
 pub record Admitted (inputs : ℕ) (words : List ℕ) : Type 0 where
@@ -124,7 +90,8 @@ countedBy words (Err (PlaceNotBelow place)) = place
 countedBy words (Err (NoSuchInput place)) = place
 countedBy words (Err (NotClosed place)) = length words
 
--- the counts of the first so many words are written, and nothing else
+-- The counts of the first so many words are written, each as its word's from those of the places that it names, and nothing else.
 pub record Counted (words : List ℕ) (many : ℕ) (before after : List ℕ) : Type 0 where
   pub written : (place : ℕ) → place < many → getD after place 0 ≡ binders words place
+  pub named : (place : ℕ) → place < many → getD after place 0 ≡ bindersOf (shapeAt words place) (λ p. getD after p 0)
   pub rest : (place : ℕ) → many ≤ place → getD after place 0 ≡ getD before place 0

@@ -1,4 +1,5 @@
 pub mod Admission
+pub mod Binders
 pub mod Formulas
 pub mod Operations
 pub mod Refusals

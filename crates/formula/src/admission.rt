@@ -4,7 +4,8 @@ ghost use mathlib.Core.Path.{_≡_};
 ghost use Prim.Native.Nat.{_<_, _≤_, _^_};
 ghost use lib.ListN.{getD, length, set};
 ghost use Rattle.std.specs.Results.{Cases, errPart, isOk};
-ghost use Rattle.formula.specs.Admission.{Answers, Counted, GoodBefore, Refused, Sized, allBelow, bindersOf, countedBy, fault, named};
+ghost use Rattle.formula.specs.Admission.{Answers, Counted, GoodBefore, Refused, Sized, allBelow, countedBy, fault};
+ghost use Rattle.formula.specs.Binders.{bindersOf, namedPlaces};
 ghost use Rattle.formula.specs.Formulas.{Filled};
 ghost use Rattle.formula.specs.Words.{indexOf, shape};
 use crate::admitted::Formula;
@@ -31,7 +32,7 @@ fn check(word: Word, place: u32, inputs: u32) -> Result<(), Refusal>
 // The binder count of a word, from the counts of the places below it.
 fn binders(word: Word, counts: &[u32]) -> u32
     requires index { ⌜ indexOf word < 2 ^ 28 ⌝ }
-    requires named { ⌜ allBelow (length (now counts)) (named word) ≡ true ⌝ }
+    requires named { ⌜ allBelow (length (now counts)) (namedPlaces word) ≡ true ⌝ }
     ensures { λ r. ⌜ r ≡ bindersOf word (λ place. getD (now (counts .entry)) place 0) ⌝ }
 {
     match word {

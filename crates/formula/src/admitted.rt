@@ -1,7 +1,8 @@
 // A formula: words whose type says that they were admitted.
 ghost use denote.Ref.{now};
 ghost use lib.ListN.{length};
-ghost use Rattle.formula.specs.Admission.{Closed, GoodBefore, Sized};
+ghost use Rattle.formula.specs.Admission.{GoodBefore, Sized};
+ghost use Rattle.formula.specs.Binders.{Closed};
 
 #[derive(Clone, Copy)]
 pub struct Formula<'a> {

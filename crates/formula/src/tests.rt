@@ -1,9 +1,9 @@
 // Sizes, and what admission leaves in the work table and the formula.
 use crate::Formula;
 use crate::Refusal;
+use crate::RefusalDebug;
+use crate::RefusalPartialEq;
 use crate::admit;
-use crate::refusal::RefusalDebug;
-use crate::refusal::RefusalPartialEq;
 use std::test::*;
 
 // (λ x. x + x) (2 · 3)

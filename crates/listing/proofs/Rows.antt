@@ -15,7 +15,8 @@ use Rattle.std.specs.Options.{isSome, mapped}
 use Rattle.std.specs.Slices.{found}
 use Rattle.std.specs.declared.option.Option.{Option}
 use Rattle.std.specs.declared.option.Option.the-variants.{Some, None}
-use Rattle.formula.specs.Admission.{Counted, binders}
+use Rattle.formula.specs.Admission.{Counted}
+use Rattle.formula.specs.Binders.{binders}
 use Rattle.formula.specs.Words.{shapeAt}
 use Rattle.listing.specs.Report.{countAt, rowText, rowsText}
 

@@ -11,7 +11,8 @@ use Rattle.std.specs.declared.option.Option.{Option}
 use Rattle.std.specs.declared.option.Option.the-variants.{Some, None}
 use Rattle.std.specs.declared.result.Result.{Result}
 use Rattle.std.specs.declared.result.Result.the-variants.{Ok, Err}
-use Rattle.formula.specs.Admission.{Answers, binders, countedBy}
+use Rattle.formula.specs.Admission.{Answers, countedBy}
+use Rattle.formula.specs.Binders.{binders}
 use Rattle.formula.specs.Refusals.{numberOf, placeOf}
 use Rattle.listing.specs.Spelling.{inWords}
 use Rattle.formula.specs.Words.{shapeAt}

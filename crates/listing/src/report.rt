@@ -5,7 +5,8 @@ ghost use Prim.Native.Nat.{ℕ, _<_, _≤_};
 ghost use lib.ListN.{length, getD};
 ghost use Rattle.std.specs.Of.String.{string-bytes};
 ghost use Rattle.std.specs.Vec.{made};
-ghost use Rattle.formula.specs.Admission.{binders, countedBy};
+ghost use Rattle.formula.specs.Admission.{countedBy};
+ghost use Rattle.formula.specs.Binders.{binders};
 ghost use Rattle.formula.specs.Words.{shape};
 ghost use Rattle.std.specs.declared.option.Option.the-variants.{Some};
 ghost use Rattle.listing.specs.Report.{Listed, Reported, badLineText, countText, rowText, rowsText, verdictText};
@@ -39,13 +40,13 @@ impl fmt::Display for Count as CountDisplay {
     }
 }
 
-fn row(heap: Global, place: usize, word: u32, binders: Option<u32>) -> Result<String, AllocError>
-    ensures { λ r. ⌜ made r (λ out. string-bytes out ≡ rowText place word (shape word) binders) ⌝ }
+fn row(heap: Global, place: usize, word: u32, count: Option<u32>) -> Result<String, AllocError>
+    ensures { λ r. ⌜ made r (λ out. string-bytes out ≡ rowText place word (shape word) count) ⌝ }
 {
     let digits = hexline::write(word);
     let line = str::from_utf8(&digits).unwrap();
     let shape = Shape(Word::decode(word));
-    let count = Count(binders);
+    let count = Count(count);
     format!(heap, "{place} {line} {shape}, {count}\n")
 }
 
