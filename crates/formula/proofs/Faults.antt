@@ -46,16 +46,16 @@ pub names-below : (inputs : ℕ) (word : Word) (place : ℕ) → isSome (fault i
 names-below inputs word place = all-below place (allowed word) (allBelow place (namedPlaces word)) (inputKnown inputs word)
 
 -- the first bad word is refused by the check that it fails, with the counts before it written
-pub first-bad : (X : Type 0) (inputs : ℕ) (words : List ℕ) (room place : ℕ) (why : Refusal) → Sized words → length words ≤ room → FirstBad inputs words place why → Refused inputs words room why × (countedBy {X = X} words (Err why) ≡ place)
-first-bad X inputs words room place why sized fits bad = at why (of-word inputs (shapeAt words place) place why (bad .here)) bad
+pub first-bad : (inputs : ℕ) (words : List ℕ) (room place : ℕ) (why : Refusal) → Sized words → length words ≤ room → FirstBad inputs words place why → Refused inputs words room why × (countedBy words (Err why) ≡ place)
+first-bad inputs words room place why sized fits bad = at why (of-word inputs (shapeAt words place) place why (bad .here)) bad
   where
-    at : (e : Refusal) → OfWord place e → FirstBad inputs words place e → Refused inputs words room e × (countedBy {X = X} words (Err e) ≡ place)
+    at : (e : Refusal) → OfWord place e → FirstBad inputs words place e → Refused inputs words room e × (countedBy words (Err e) ≡ place)
     at e leaf first = ((sized, fits, first), refl)
     at e below first = ((sized, fits, first), refl)
     at e input first = ((sized, fits, first), refl)
 
 -- no answer leaves more counts than there are words
-pub counted-within : {X : Type 0} (inputs : ℕ) (words : List ℕ) (room : ℕ) (r : Result X Refusal) → Answers inputs words room r → countedBy words r ≤ length words
+pub counted-within : (inputs : ℕ) (words : List ℕ) (room : ℕ) (r : Result (Unit {0}) Refusal) → Answers inputs words room r → countedBy words r ≤ length words
 counted-within inputs words room (Ok x) a = omega arith
 counted-within inputs words room (Err WordCount) a = omega arith
 counted-within inputs words room (Err ShortTable) a = omega arith

@@ -76,12 +76,12 @@ Refused inputs words room (NotClosed place) =
     Sized words × (length words ≤ room) × GoodBefore inputs words (length words) × (Closed words → ⊥) × (place ≡ root words)
 
 -- what admission answers
-abbrev pub Answers : {X : Type 0} → ℕ → List ℕ → ℕ → Result X Refusal → Type 0
+abbrev pub Answers : ℕ → List ℕ → ℕ → Result (Unit {0}) Refusal → Type 0
 Answers inputs words room (Ok x) = Admitted inputs words × (length words ≤ room)
 Answers inputs words room (Err why) = Refused inputs words room why
 
 -- how many binder counts an answer leaves written
-abbrev pub countedBy : {X : Type 0} → List ℕ → Result X Refusal → ℕ
+abbrev pub countedBy : List ℕ → Result (Unit {0}) Refusal → ℕ
 countedBy words (Ok x) = length words
 countedBy words (Err WordCount) = 0
 countedBy words (Err ShortTable) = 0

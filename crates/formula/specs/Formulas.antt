@@ -18,6 +18,6 @@ abbrev pub Holds : List ℕ → ℕ → Formula → Type 0
 Holds words inputs formula = (wordsOf formula ≡ words) × (inputsOf formula ≡ inputs)
 
 -- admission fills the formula, and a refusal leaves it as it was
-abbrev pub Filled : {X : Type 0} → List ℕ → ℕ → Formula → Formula → Result X Refusal → Type 0
+abbrev pub Filled : List ℕ → ℕ → Formula → Formula → Result (Unit {0}) Refusal → Type 0
 Filled words inputs before after (Ok x) = Holds words inputs after
 Filled words inputs before after (Err why) = after ≡ before

@@ -10,7 +10,9 @@ use borrow.Author.Count.{below-more}
 use Rattle.std.proofs.shelf.Lists.{drop-drop, getD-drop, getD-set-same, getD-set-other, nil-from-length}
 use Rattle.std.specs.declared.option.Option.the-variants.{Some, None}
 use Rattle.hexline.specs.Hex.{wordOf}
-use Rattle.hexline.specs.Lines.{linesOf, Head, Whole, Stopped}
+use Rattle.std.specs.declared.result.Result.the-variants.{Ok, Err}
+use Rattle.hexline.specs.Lines.{Head, LineInto, Stopped, Whole, linesOf}
+use Rattle.hexline.specs.declared.table.BadLine.{BadLine}
 
 -- the first n lines of text were read, and rest is what follows them
 pub record Sofar (text before after rest : List ℕ) (n : ℕ) : Type 0 where
@@ -45,8 +47,8 @@ module _ (text before after rest : List ℕ) (n : ℕ) (h : Sofar text before af
         ∙ sym (getD-drop n (linesOf text) 0 [])
         ∙ ap (λ l. getD l 0 []) (h .lines ∙ cut)
 
-    pub one-more : (w : ℕ) → length more < length rest → n < length before → length after ≡ length before → wordOf line ≡ Some w → Sofar text before (set after n w) more (n + 1)
-    one-more w shorter free same read =
+    with-word : (w : ℕ) → length more < length rest → n < length before → length after ≡ length before → wordOf line ≡ Some w → Sofar text before (set after n w) more (n + 1)
+    with-word w shorter free same read =
         let lt : n < length after = omega arith in
         record {
           lines = sym (drop-drop 1 n (linesOf text)) ∙ ap (drop 1) (h .lines ∙ cut);
@@ -62,8 +64,12 @@ module _ (text before after rest : List ℕ) (n : ℕ) (h : Sofar text before af
           };
         }
 
-    pub stop : (wordOf line ≡ None) ⊎ (length before ≤ n) → Stopped (linesOf text) before after (n + 1)
-    stop bad =
+    pub one-more : (table : List ℕ) → length more < length rest → length after ≡ length before → LineInto line n after table (Ok tt) → Sofar text before table more (n + 1)
+    one-more table shorter same told =
+        subst (λ t. Sofar text before t more (n + 1)) (sym (told .2)) (with-word (getD table n 0) shorter (omega (arith, told .0)) same (told .1))
+
+    stop-here : (wordOf line ≡ None) ⊎ (length before ≤ n) → Stopped (linesOf text) before after (n + 1)
+    stop-here bad =
         let back : n ≡ n + 1 - 1 = omega arith in
         let same : line ≡ getD (linesOf text) (n + 1 - 1) [] = sym first ∙ ap (λ i. getD (linesOf text) i []) back in
         record {
@@ -73,3 +79,8 @@ module _ (text before after rest : List ℕ) (n : ℕ) (h : Sofar text before af
           head = subst (Head (linesOf text) before after) back (h .head);
           bad = subst (λ l. (wordOf l ≡ None) ⊎ (length before ≤ n + 1 - 1)) same (subst (λ m. (wordOf line ≡ None) ⊎ (length before ≤ m)) back bad);
         }
+
+    pub stop : (table : List ℕ) (e : BadLine) → length after ≡ length before → LineInto line n after table (Err e) → Stopped (linesOf text) before table (e .number)
+    stop table e same told =
+        let bad = subst (λ size. (wordOf line ≡ None) ⊎ (size ≤ n)) same (told .2) in
+        rw (told .0, told .1) (stop-here bad)

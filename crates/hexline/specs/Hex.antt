@@ -1,4 +1,4 @@
--- A 32-bit word as a line of exactly eight lowercase hexadecimal digits.
+-- A 32-bit word as a line of exactly eight lowercase hexadecimal digits. Assumes nothing.
 use mathlib.Core.Bool.{cond, _&&_}
 use mathlib.Core.List.{List, [], _∷_}
 use Prim.Native.Nat.{ℕ, _+_, _-_, _*_, _/_, _%_, _^_}

@@ -1,11 +1,11 @@
--- A text as lines, and what it means that its lines were read into a table.
+-- A text as lines, and what it means that its lines were read into a table. Assumes nothing.
 use mathlib.Core.Path.{_≡_}
 use mathlib.Core.Bool.{cond}
 use mathlib.Core.List.{List, [], _∷_}
 use mathlib.Core.Logic.{_⊎_}
-use Prim.Native.Nat.{ℕ, _-_, _≤_, _<_}
+use Prim.Native.Nat.{ℕ, _+_, _-_, _≤_, _<_}
 use lib.Dec.{eqb}
-use lib.ListN.{length, getD}
+use lib.ListN.{length, getD, set}
 use Rattle.std.specs.declared.option.Option.the-variants.{Some, None}
 use Rattle.std.specs.declared.result.Result.{Result}
 use Rattle.std.specs.declared.result.Result.the-variants.{Ok, Err}
@@ -21,6 +21,13 @@ onto b (l ∷ ls) = (b ∷ l) ∷ ls
 abbrev pub linesOf : List ℕ → List (List ℕ)
 linesOf [] = []
 linesOf (b ∷ bs) = cond (eqb b 10) ([] ∷ linesOf bs) (onto b (linesOf bs))
+
+-- a line read into a place of a table, or the line's number and why it is not: malformed, or no such place
+abbrev pub LineInto : List ℕ → ℕ → List ℕ → List ℕ → Result (Unit {0}) BadLine → Type 0
+LineInto line place before after (Ok x) =
+    (place < length before) × (wordOf line ≡ Some (getD after place 0)) × (after ≡ set before place (getD after place 0))
+LineInto line place before after (Err e) =
+    (e .number ≡ place + 1) × (after ≡ before) × ((wordOf line ≡ None) ⊎ (length before ≤ place))
 
 -- the first n places hold the words of the first n lines, and the others what they held
 pub record Head (lines : List (List ℕ)) (before after : List ℕ) (n : ℕ) : Type 0 where

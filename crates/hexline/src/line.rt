@@ -1,7 +1,7 @@
 // One line: eight lowercase hexadecimal digits, the most significant first.
 ghost use mathlib.Core.Path.{_≡_};
-ghost use Prim.Native.Nat.{_<_};
-ghost use Rattle.hexline.specs.Hex.{digitValue, wordOf, digitAt, lineOf};
+ghost use Prim.Native.Nat.{_+_, _*_, _^_, _<_};
+ghost use Rattle.hexline.specs.Hex.{andThen, digitAt, digitValue, lineOf, wordOf};
 ghost use Rattle.std.specs.declared.option.Option.the-variants.{Some};
 
 const LENGTH: usize = 8;
@@ -16,6 +16,14 @@ fn digit(byte: u8) -> Option<u32>
     }
 }
 
+// The number with one digit more.
+fn with_digit(number: u32, byte: u8) -> Option<u32>
+    requires { ⌜ number < 2 ^ 28 ⌝ }
+    ensures { λ r. ⌜ r ≡ andThen (digitValue byte) (λ d. Some (16 * number + d)) ⌝ }
+{
+    Some(16 * number + digit(byte)?)
+}
+
 // The word that a line of exactly eight digits spells.
 pub fn read(line: &[u8]) -> Option<u32>
     ensures { λ r. ⌜ r ≡ wordOf (now (line .entry)) ⌝ }
@@ -25,7 +33,7 @@ pub fn read(line: &[u8]) -> Option<u32>
     }
     let mut word = 0;
     for byte in line {
-        word = 16 * word + digit(*byte)?;
+        word = with_digit(word, *byte)?;
     }
     Some(word)
 }
@@ -43,10 +51,9 @@ fn digit_at(word: u32, bit: u32) -> u8
     }
 }
 
-// The line of a word, which `read` gives back.
-pub fn write(word: u32) -> [u8; 8]
-    ensures value { λ r. ⌜ r ≡ lineOf word ⌝ }
-    ensures reads_back { λ r. ⌜ wordOf r ≡ Some word ⌝ }
+// The digits of a word, the highest first.
+fn digits(word: u32) -> [u8; 8]
+    ensures { λ r. ⌜ r ≡ lineOf word ⌝ }
 {
     [
         digit_at(word, 28),
@@ -58,4 +65,12 @@ pub fn write(word: u32) -> [u8; 8]
         digit_at(word, 4),
         digit_at(word, 0),
     ]
+}
+
+// The line of a word, which `read` gives back.
+pub fn write(word: u32) -> [u8; 8]
+    ensures value { λ r. ⌜ r ≡ lineOf word ⌝ }
+    ensures reads_back { λ r. ⌜ wordOf r ≡ Some word ⌝ }
+{
+    digits(word)
 }

@@ -1,9 +1,9 @@
 // A text of lines, one word each, read into a table.
 ghost use mathlib.Core.Path.{_≡_};
 ghost use mathlib.Core.List.{List, _∷_, _++_};
-ghost use Prim.Native.Nat.{ℕ, _*_, _<_};
+ghost use Prim.Native.Nat.{ℕ, _*_, _<_, _≤_};
 ghost use lib.ListN.{length};
-ghost use Rattle.hexline.specs.Lines.{linesOf, ReadInto};
+ghost use Rattle.hexline.specs.Lines.{LineInto, ReadInto, linesOf};
 use crate::line::read;
 
 const NEWLINE: u8 = b'\n';
@@ -28,6 +28,19 @@ fn first_line(text: &[u8]) -> (&[u8], &[u8])
     (text, &[])
 }
 
+// Reads a line into a place of the table.
+fn read_line(line: &[u8], table: &mut [u32], place: usize) -> Result<(), BadLine>
+    requires { ⌜ place ≤ length (now table) ⌝ }
+    ensures { λ r. ⌜ LineInto (now (line .entry)) place (now (table .entry)) (now (table .exit)) r ⌝ }
+{
+    let bad = BadLine { number: place + 1 };
+    if place == table.len() {
+        return Err(bad);
+    }
+    table[place] = read(line).ok_or(bad)?;
+    Ok(())
+}
+
 // Reads the lines of `text` into the head of `table`, and says how many there were.
 // A text of more than nine bytes for each place decides the answer, whatever follows it.
 pub fn read_table(text: &[u8], table: &mut [u32]) -> Result<usize, BadLine>
@@ -38,11 +51,7 @@ pub fn read_table(text: &[u8], table: &mut [u32]) -> Result<usize, BadLine>
     let mut count = 0;
     while !rest.is_empty() {
         let (line, after) = first_line(rest);
-        let bad = BadLine { number: count + 1 };
-        if count == table.len() {
-            return Err(bad);
-        }
-        table[count] = read(line).ok_or(bad)?;
+        read_line(line, table, count)?;
         count += 1;
         rest = after;
     }

@@ -41,7 +41,7 @@ abbrev pub rowsText : List ℕ → ℕ → ℕ → List ℕ
 rowsText words counted zero = []
 rowsText words counted (suc n) = rowsText words counted n ++ rowText n (getD words n 0) (shapeAt words n) (countAt words counted n)
 
-abbrev pub verdictText : {X : Type 0} → Result X Refusal → List ℕ
+abbrev pub verdictText : Result (Unit {0}) Refusal → List ℕ
 verdictText (Ok x) = codes "admitted\n"
 verdictText (Err why) = codes "refused " ++ (decimal (numberOf why) ++ (codes " " ++ (decimal (placeOf why) ++ codes "\n")))
 

@@ -3,13 +3,14 @@ ghost use mathlib.Core.List.{List, _++_};
 ghost use mathlib.Core.Path.{_≡_};
 ghost use Prim.Native.Nat.{ℕ, _<_, _≤_};
 ghost use lib.ListN.{length, getD};
+ghost use Rattle.std.specs.Results.{Cases};
 ghost use Rattle.std.specs.Of.String.{string-bytes};
 ghost use Rattle.std.specs.Vec.{made};
 ghost use Rattle.formula.specs.Admission.{countedBy};
 ghost use Rattle.formula.specs.Binders.{binders};
 ghost use Rattle.formula.specs.Words.{shape};
 ghost use Rattle.std.specs.declared.option.Option.the-variants.{Some};
-ghost use Rattle.listing.specs.Report.{Listed, Reported, badLineText, countText, rowText, rowsText, verdictText};
+ghost use Rattle.listing.specs.Report.{Listed, Reported, Told, badLineText, countText, rowText, rowsText, verdictText};
 use crate::spelling::Shape;
 use crate::spelling::ShapeDisplay;
 use formula::Formula;
@@ -109,6 +110,23 @@ fn list(heap: Global, words: &[u32], inputs: u32) -> Result<String, AllocError>
     Ok(out)
 }
 
+// What is printed of a table that a text was read into.
+fn told(
+    heap: Global,
+    table: &[u32],
+    lines: Result<usize, BadLine>,
+    inputs: u32,
+) -> Result<String, AllocError>
+    requires few { ⌜ length (now table) ≤ 4096 ⌝ }
+    requires room { ⌜ Cases lines (λ count. count ≤ length (now table)) (λ _. Unit {0}) ⌝ }
+    ensures { λ r. ⌜ made r (λ out. Told inputs (now (table .entry)) lines (string-bytes out)) ⌝ }
+{
+    match lines {
+        Ok(count) => list(heap, &table[0..count], inputs),
+        Err(bad) => bad_line(heap, bad),
+    }
+}
+
 // What is printed of a text, for so many inputs. A text of more than nine bytes a line decides
 // it, whatever follows.
 pub fn report(heap: Global, text: &[u8], inputs: u32) -> Result<String, AllocError>
@@ -116,8 +134,6 @@ pub fn report(heap: Global, text: &[u8], inputs: u32) -> Result<String, AllocErr
     ensures enough { λ r. ⌜ made r (λ out. (more : List ℕ) → 36864 < length (now (text .entry)) → Reported (now (text .entry) ++ more) inputs (string-bytes out)) ⌝ }
 {
     let mut table = [0; MOST_LINES];
-    match read_table(text, &mut table) {
-        Ok(count) => list(heap, &table[0..count], inputs),
-        Err(bad) => bad_line(heap, bad),
-    }
+    let lines = read_table(text, &mut table);
+    told(heap, &table, lines, inputs)
 }

@@ -17,7 +17,7 @@ returns-in-Break-count-word c =
     let why = c .in-Break-count-word .field-0 .0 in
     let told = c .in-Break-count-word .ensures tt in
     let here : FirstBad (c .args .inputs) words place why = record { within = omega arith; before = c .loop-place .inv .0; here = sym (told .answer) } in
-    let bad = first-bad (Unit {0}) (c .args .inputs) words _ place why (c .pre .sized) (c .pre .room) here in
+    let bad = first-bad (c .args .inputs) words _ place why (c .pre .sized) (c .pre .room) here in
     let same = subst (λ (work : List ℕ). Counted words place before work) (sym (told .count)) (c .loop-place .inv .1) in
     let p = err-from-errBy (c .from-residual .result) (c .from-residual .ensures .1) in
     rw (p .1, p .2) (record { answer = bad .0; counts = subst (λ (many : ℕ). Counted words many before (c .count-word .last .work)) (sym (bad .1)) same })
