@@ -1,13 +1,8 @@
 // What a formula shows.
-ghost use mathlib.Core.Bool.{false};
 ghost use mathlib.Core.List.{[], _∷_};
 ghost use mathlib.Core.Path.{_≡_};
-ghost use Prim.Native.Nat.{_<_, _≤_};
-ghost use lib.ListN.{length};
-ghost use Rattle.std.specs.Options.{Cases, isSome};
-ghost use Rattle.formula.specs.Admission.{Admitted, fault};
-ghost use Rattle.formula.specs.Formulas.{Holds, inputsOf, wordsOf};
-ghost use Rattle.formula.specs.Words.{shapeAt};
+ghost use Rattle.formula.specs.Admission.{Admitted};
+ghost use Rattle.formula.specs.Formulas.{Holds, WordAt, inputsOf, wordsOf};
 use crate::admitted::Formula;
 use crate::word::Word;
 
@@ -35,10 +30,9 @@ impl<'a> Formula<'a> {
         self.inputs
     }
 
-    // The word at a place, none past the root. It has passed its checks.
+    // The word at a place, none past the root.
     pub fn word(&self, place: u32) -> Option<Word>
-        ensures value { λ r. ⌜ Cases r (length (wordsOf (now (self .entry))) ≤ place) (λ word. (place < length (wordsOf (now (self .entry)))) × (word ≡ shapeAt (wordsOf (now (self .entry))) place)) ⌝ }
-        ensures good { λ r. ⌜ Cases r (Unit {0}) (λ word. isSome (fault (inputsOf (now (self .entry))) word place) ≡ false) ⌝ }
+        ensures { λ r. ⌜ WordAt (now (self .entry)) place r ⌝ }
     {
         if place as usize >= self.words.len() {
             return None;

@@ -1,9 +1,9 @@
 -- A text as lines, and what it means that its lines were read into a table. Assumes nothing.
 use mathlib.Core.Path.{_≡_}
 use mathlib.Core.Bool.{cond}
-use mathlib.Core.List.{List, [], _∷_}
+use mathlib.Core.List.{List, [], _∷_, _++_}
 use mathlib.Core.Logic.{_⊎_}
-use Prim.Native.Nat.{ℕ, _+_, _-_, _≤_, _<_}
+use Prim.Native.Nat.{ℕ, _+_, _-_, _*_, _≤_, _<_}
 use lib.Dec.{eqb}
 use lib.ListN.{length, getD, set}
 use Rattle.std.specs.declared.option.Option.the-variants.{Some, None}
@@ -51,3 +51,7 @@ pub record Stopped (lines : List (List ℕ)) (before after : List ℕ) (number :
 abbrev pub ReadInto : List (List ℕ) → List ℕ → List ℕ → Result ℕ BadLine → Type 0
 ReadInto lines before after (Ok n) = Whole lines before after n
 ReadInto lines before after (Err e) = Stopped lines before after (e .number)
+
+-- a text of more than nine bytes for each place has the same answer whatever follows it
+abbrev pub Decided : List ℕ → List ℕ → List ℕ → Result ℕ BadLine → Type 0
+Decided text before after r = (more : List ℕ) → 9 * length before < length text → ReadInto (linesOf (text ++ more)) before after r

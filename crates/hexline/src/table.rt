@@ -1,9 +1,9 @@
 // A text of lines, one word each, read into a table.
 ghost use mathlib.Core.Path.{_≡_};
-ghost use mathlib.Core.List.{List, _∷_, _++_};
-ghost use Prim.Native.Nat.{ℕ, _*_, _<_, _≤_};
+ghost use mathlib.Core.List.{_∷_};
+ghost use Prim.Native.Nat.{_<_, _≤_};
 ghost use lib.ListN.{length};
-ghost use Rattle.hexline.specs.Lines.{LineInto, ReadInto, linesOf};
+ghost use Rattle.hexline.specs.Lines.{Decided, LineInto, ReadInto, linesOf};
 use crate::line::read;
 
 const NEWLINE: u8 = b'\n';
@@ -45,7 +45,7 @@ fn read_line(line: &[u8], table: &mut [u32], place: usize) -> Result<(), BadLine
 // A text of more than nine bytes for each place decides the answer, whatever follows it.
 pub fn read_table(text: &[u8], table: &mut [u32]) -> Result<usize, BadLine>
     ensures reads { λ r. ⌜ ReadInto (linesOf (now (text .entry))) (now (table .entry)) (now (table .exit)) r ⌝ }
-    ensures enough { λ r. ⌜ ((more : List ℕ) → 9 * length (now (table .entry)) < length (now (text .entry)) → ReadInto (linesOf (now (text .entry) ++ more)) (now (table .entry)) (now (table .exit)) r) ⌝ }
+    ensures enough { λ r. ⌜ Decided (now (text .entry)) (now (table .entry)) (now (table .exit)) r ⌝ }
 {
     let mut rest = text;
     let mut count = 0;

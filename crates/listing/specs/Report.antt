@@ -2,7 +2,7 @@
 use mathlib.Core.Path.{_≡_}
 use mathlib.Core.Bool.{cond}
 use mathlib.Core.List.{List, [], _∷_, _++_}
-use Prim.Native.Nat.{ℕ, zero, suc}
+use Prim.Native.Nat.{ℕ, zero, suc, _<_}
 use lib.Chars.{codes}
 use lib.Dec.{ltb}
 use lib.ListN.{getD, length, replicate, take}
@@ -62,3 +62,7 @@ Told inputs table (Err bad) out = out ≡ badLineText (bad .number)
 abbrev pub Reported : List ℕ → ℕ → List ℕ → Type 0
 Reported text inputs out =
     (table : List ℕ) × (lines : Result ℕ BadLine) × ReadInto (linesOf text) (replicate 4096 0) table lines × Told inputs table lines out
+
+-- the same of every text that begins with this one, if it is longer than 4,096 lines can be
+abbrev pub Decided : List ℕ → ℕ → List ℕ → Type 0
+Decided text inputs out = (more : List ℕ) → 36864 < length text → Reported (text ++ more) inputs out

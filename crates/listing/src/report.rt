@@ -1,5 +1,4 @@
-// What the program prints, as a function of what it reads.
-ghost use mathlib.Core.List.{List, _++_};
+// What the program prints of what it reads.
 ghost use mathlib.Core.Path.{_≡_};
 ghost use Prim.Native.Nat.{ℕ, _<_, _≤_};
 ghost use lib.ListN.{length, getD};
@@ -10,7 +9,7 @@ ghost use Rattle.formula.specs.Admission.{countedBy};
 ghost use Rattle.formula.specs.Binders.{binders};
 ghost use Rattle.formula.specs.Words.{shape};
 ghost use Rattle.std.specs.declared.option.Option.the-variants.{Some};
-ghost use Rattle.listing.specs.Report.{Listed, Reported, Told, badLineText, countText, rowText, rowsText, verdictText};
+ghost use Rattle.listing.specs.Report.{Decided, Listed, Reported, Told, badLineText, countText, rowText, rowsText, verdictText};
 use crate::spelling::Shape;
 use crate::spelling::ShapeDisplay;
 use formula::Formula;
@@ -127,11 +126,11 @@ fn told(
     }
 }
 
-// What is printed of a text, for so many inputs. A text of more than nine bytes a line decides
-// it, whatever follows.
+// What is printed of a text, for so many inputs. A text of more than nine bytes for each of
+// 4,096 lines decides it, whatever follows.
 pub fn report(heap: Global, text: &[u8], inputs: u32) -> Result<String, AllocError>
     ensures reported { λ r. ⌜ made r (λ out. Reported (now (text .entry)) inputs (string-bytes out)) ⌝ }
-    ensures enough { λ r. ⌜ made r (λ out. (more : List ℕ) → 36864 < length (now (text .entry)) → Reported (now (text .entry) ++ more) inputs (string-bytes out)) ⌝ }
+    ensures enough { λ r. ⌜ made r (λ out. Decided (now (text .entry)) inputs (string-bytes out)) ⌝ }
 {
     let mut table = [0; MOST_LINES];
     let lines = read_table(text, &mut table);
