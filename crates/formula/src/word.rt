@@ -12,6 +12,7 @@ pub enum Word {
     Input(u32),
     Abstraction { body: u32 },
     Application { function: u32, argument: u32 },
+    // A leaf with tell 3, or an operation above 5.
     NotAllowed,
 }
 
