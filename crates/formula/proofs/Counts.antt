@@ -3,20 +3,19 @@ use mathlib.Core.Path.{_≡_, refl, sym, _∙_, ap}
 use mathlib.Core.Bool.{true, false}
 use mathlib.Core.Logic.{_≢_}
 use mathlib.Core.List.{List}
-use Prim.Native.Nat.{ℕ, zero, suc, _+_, _-_, _<_, _≤_, max}
+use Prim.Native.Nat.{ℕ, zero, suc, _+_, _-_, _<_}
 use native.Mathlib.Omega.{arith}
-use native.Mathlib.Numerals.{add-one}
 use borrow.Author.Count.{below-more}
 use lib.ListN.{length, getD, set}
 use lib.Seq.{getD-set-same, getD-set-other}
 use Rattle.std.specs.Options.{isSome}
 use Rattle.std.proofs.shelf.Ways.{tells}
-use Rattle.formula.specs.Admission.{Counted, GoodBefore, allBelow, fault}
+use Rattle.formula.specs.Admission.{Counted, GoodBefore, allBelow, wordRefusal}
 use Rattle.formula.specs.Binders.{binders, bindersOf, bindersWithin, namedPlaces}
 use Rattle.formula.specs.Words.{shapeAt}
 use Rattle.formula.specs.declared.word.Word.{Word}
 use Rattle.formula.specs.declared.word.Word.the-variants.{Number, Variable, Operation as Op, Input, Abstraction, Application, NotAllowed}
-use Rattle.formula.proofs.Faults.{names-below}
+use Rattle.formula.proofs.Checks.{names-below}
 
 -- counts that agree below a place give the same count to a word that names places below it
 pub same-count : (word : Word) (place : ℕ) (f g : ℕ → ℕ) → allBelow place (namedPlaces word) ≡ true → ((p : ℕ) → p < place → f p ≡ g p) → bindersOf word f ≡ bindersOf word g
@@ -48,8 +47,8 @@ count-by-named inputs words place good =
     (λ p below. more-turns inputs words place (suc p) p below (omega arith) (λ q under. good q (omega arith)))
 
 -- a loop's step: one word more passes its checks
-pub good-more : (inputs : ℕ) (words : List ℕ) (place : ℕ) → GoodBefore inputs words place → isSome (fault inputs (shapeAt words place) place) ≡ false → GoodBefore inputs words (place + 1)
-good-more inputs words place good here = below-more (λ p. isSome (fault inputs (shapeAt words p) p) ≡ false) place good here
+pub good-more : (inputs : ℕ) (words : List ℕ) (place : ℕ) → GoodBefore inputs words place → isSome (wordRefusal inputs (shapeAt words place) place) ≡ false → GoodBefore inputs words (place + 1)
+good-more inputs words place good here = below-more (λ p. isSome (wordRefusal inputs (shapeAt words p) p) ≡ false) place good here
 
 -- counts that are written as the definition has them follow from the counts of named places
 by-named : (inputs : ℕ) (words table : List ℕ) (many : ℕ) → GoodBefore inputs words many → ((p : ℕ) → p < many → getD table p 0 ≡ binders words p) → (place : ℕ) → place < many → getD table place 0 ≡ bindersOf (shapeAt words place) (λ p. getD table p 0)

@@ -40,8 +40,8 @@ inputKnown inputs (Application function argument) = true
 inputKnown inputs NotAllowed = true
 
 -- the first check that a word at a place fails, if any
-abbrev pub fault : ℕ → Word → ℕ → Option Refusal
-fault inputs word place =
+abbrev pub wordRefusal : ℕ → Word → ℕ → Option Refusal
+wordRefusal inputs word place =
     cond (allowed word)
     (cond (allBelow place (namedPlaces word)) (cond (inputKnown inputs word) None (Some (NoSuchInput place))) (Some (PlaceNotBelow place)))
     (Some (BadLeaf place))
@@ -51,7 +51,7 @@ Sized words = (0 < length words) × (length words ≤ 32768)
 
 -- the words before a place pass their checks
 abbrev pub GoodBefore : ℕ → List ℕ → ℕ → Type 0
-GoodBefore inputs words end = (place : ℕ) → place < end → isSome (fault inputs (shapeAt words place) place) ≡ false
+GoodBefore inputs words end = (place : ℕ) → place < end → isSome (wordRefusal inputs (shapeAt words place) place) ≡ false
 
 -- the words are a formula of so many inputs
 abbrev pub Admitted : ℕ → List ℕ → Type 0
@@ -61,7 +61,7 @@ Admitted inputs words = Sized words × GoodBefore inputs words (length words) ×
 pub record FirstBad (inputs : ℕ) (words : List ℕ) (place : ℕ) (why : Refusal) : Type 0 where
   pub within : place < length words
   pub before : GoodBefore inputs words place
-  pub here : fault inputs (shapeAt words place) place ≡ Some why
+  pub here : wordRefusal inputs (shapeAt words place) place ≡ Some why
 
 -- when each refusal comes, for so many inputs and a work table of so many places
 abbrev pub Refused : ℕ → List ℕ → ℕ → Refusal → Type 0

@@ -12,7 +12,7 @@ use Rattle.std.specs.declared.result.Result.the-variants.{Ok, Err}
 use Rattle.formula.specs.declared.admitted.Formula.{Formula}
 use Rattle.formula.specs.declared.refusal.Refusal.{Refusal}
 use Rattle.formula.specs.declared.word.Word.{Word}
-use Rattle.formula.specs.Admission.{fault}
+use Rattle.formula.specs.Admission.{wordRefusal}
 use Rattle.formula.specs.Words.{shapeAt}
 
 abbrev pub wordsOf : Formula → List ℕ
@@ -29,7 +29,7 @@ Holds words inputs formula = (wordsOf formula ≡ words) × (inputsOf formula �
 abbrev pub WordAt : Formula → ℕ → Option Word → Type 0
 WordAt formula place None = length (wordsOf formula) ≤ place
 WordAt formula place (Some word) =
-    (place < length (wordsOf formula)) × (word ≡ shapeAt (wordsOf formula) place) × (isSome (fault (inputsOf formula) word place) ≡ false)
+    (place < length (wordsOf formula)) × (word ≡ shapeAt (wordsOf formula) place) × (isSome (wordRefusal (inputsOf formula) word place) ≡ false)
 
 -- admission fills the formula, and a refusal leaves it as it was
 abbrev pub Filled : List ℕ → ℕ → Formula → Formula → Result (Unit {0}) Refusal → Type 0

@@ -4,7 +4,7 @@ ghost use mathlib.Core.Path.{_≡_};
 ghost use Prim.Native.Nat.{_<_, _≤_, _^_};
 ghost use lib.ListN.{getD, length, set};
 ghost use Rattle.std.specs.Results.{Cases, errPart, isOk};
-ghost use Rattle.formula.specs.Admission.{Answers, Counted, GoodBefore, Refused, Sized, allBelow, countedBy, fault};
+ghost use Rattle.formula.specs.Admission.{Answers, Counted, GoodBefore, Refused, Sized, allBelow, countedBy, wordRefusal};
 ghost use Rattle.formula.specs.Binders.{bindersOf, namedPlaces};
 ghost use Rattle.formula.specs.Formulas.{Filled};
 ghost use Rattle.formula.specs.Words.{indexOf, shape};
@@ -16,7 +16,7 @@ const MOST_WORDS: usize = 32_768;
 
 // The first check that the word fails, if any.
 fn check(word: Word, place: u32, inputs: u32) -> Result<(), Refusal>
-    ensures { λ r. ⌜ errPart r ≡ fault inputs word place ⌝ }
+    ensures { λ r. ⌜ errPart r ≡ wordRefusal inputs word place ⌝ }
 {
     match word {
         Word::NotAllowed => Err(Refusal::BadLeaf(place)),
@@ -49,7 +49,7 @@ fn binders(word: Word, counts: &[u32]) -> u32
 fn count_word(word: u32, place: usize, inputs: u32, work: &mut [u32]) -> Result<(), Refusal>
     requires few { ⌜ place < 32768 ⌝ }
     requires room { ⌜ place < length (now work) ⌝ }
-    ensures answer { λ r. ⌜ errPart r ≡ fault inputs (shape word) place ⌝ }
+    ensures answer { λ r. ⌜ errPart r ≡ wordRefusal inputs (shape word) place ⌝ }
     ensures count { λ r. ⌜ now (work .exit) ≡ cond (isOk r) (set (now (work .entry)) place (bindersOf (shape word) (λ p. getD (now (work .entry)) p 0))) (now (work .entry)) ⌝ }
 {
     let word = Word::decode(word);

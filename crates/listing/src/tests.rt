@@ -1,11 +1,23 @@
-// What is printed of texts that are no table, or a table that is refused.
+// What the argument says, and what is printed of texts that are no table or a table that is refused.
+use crate::argument::input_count;
 use crate::report::report;
 use std::alloc::Global;
 use std::test::*;
 
-fn prints(heap: Global, text: &[u8], expected: &str) -> Result<(), Fail> {
-    let out = report(heap, text, 0)?;
+fn prints(heap: Global, text: &[u8], inputs: u32, expected: &str) -> Result<(), Fail> {
+    let out = report(heap, text, inputs)?;
     check_eq(out.as_str(), expected)
+}
+
+#[test]
+fn arguments() -> Result<(), Fail> {
+    check_eq(input_count(None), Some(0))?;
+    check_eq(input_count(Some("3")), Some(3))?;
+    check_eq(input_count(Some("4294967295")), Some(u32::MAX))?;
+    check_eq(input_count(Some("4294967296")), None)?;
+    check_eq(input_count(Some("-1")), None)?;
+    check_eq(input_count(Some("three")), None)?;
+    check_eq(input_count(Some("")), None)
 }
 
 #[test]
@@ -22,7 +34,7 @@ fn malformed_lines(rt: LibcRuntime) -> Result<(), Fail> {
         (b"00000007\n00000007\n\xc3\xa9\xff00007", "bad line 3\n"),
     ];
     for (text, expected) in texts {
-        prints(rt.alloc(), text, expected)?;
+        prints(rt.alloc(), text, 0, expected)?;
     }
     Ok(())
 }
@@ -30,10 +42,23 @@ fn malformed_lines(rt: LibcRuntime) -> Result<(), Fail> {
 #[test]
 fn refused_tables(rt: LibcRuntime) -> Result<(), Fail> {
     let heap = rt.alloc();
-    prints(heap, b"", "refused 1 0\n")?;
+    prints(heap, b"", 0, "refused 1 0\n")?;
+    prints(
+        heap,
+        b"60000001",
+        2,
+        "0 60000001 input 1, binders 0\nadmitted\n",
+    )?;
+    prints(
+        heap,
+        b"60000001",
+        1,
+        "0 60000001 input 1, not counted\nrefused 5 0\n",
+    )?;
     prints(
         heap,
         b"00000007\n3fffffff\nc0000002",
+        0,
         "0 00000007 number 7, binders 0\n1 3fffffff number -1, binders 0\n2 c0000002 application of 0 to 2, not counted\nrefused 4 2\n",
     )
 }
@@ -51,5 +76,5 @@ fn most_lines(rt: LibcRuntime) -> Result<(), Fail> {
             .ends_with("\n4095 00000007 number 7, binders 0\nadmitted\n"),
     )?;
     text.extend_from_slice(b"00000007")?;
-    prints(heap, text.as_slice(), "bad line 4097\n")
+    prints(heap, text.as_slice(), 0, "bad line 4097\n")
 }

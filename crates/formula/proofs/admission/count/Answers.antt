@@ -6,7 +6,7 @@ use Rattle.std.proofs.shelf.Results.{err-from-errBy}
 use Rattle.std.specs.Options.{isSome}
 use Rattle.formula.specs.Admission.{Counted, FirstBad}
 use Rattle.formula.proofs.Counts.{counted-more, good-more}
-use Rattle.formula.proofs.Faults.{first-bad}
+use Rattle.formula.proofs.Checks.{first-bad}
 use Rattle.formula.proofs.admission.count.Needs as need
 
 pub returns-in-Break-count-word : need.returns-in-Break-count-word

@@ -4,7 +4,7 @@ use native.Mathlib.Omega.{arith}
 use denote.Ref.{now}
 use lib.ListN.{length}
 use Rattle.formula.specs.Admission.{countedBy}
-use Rattle.formula.proofs.Faults.{counted-within}
+use Rattle.formula.proofs.Checks.{counted-within}
 use Rattle.listing.specs.Report.{rowsText}
 use Rattle.listing.proofs.Rows.{head-counts, head-length}
 use Rattle.listing.proofs.report.list.Needs as need

@@ -2,7 +2,7 @@
 use mathlib.Core.Path.{_≡_, refl, subst}
 use mathlib.Core.Bool.{Bool, true, false, cond}
 use mathlib.Core.List.{List}
-use Prim.Native.Nat.{ℕ, _<_, _≤_}
+use Prim.Native.Nat.{ℕ, _≤_}
 use native.Mathlib.Omega.{arith}
 use lib.ListN.{length}
 use Rattle.std.specs.Options.{isSome}
@@ -10,7 +10,7 @@ use Rattle.std.specs.declared.option.Option.{Option}
 use Rattle.std.specs.declared.option.Option.the-variants.{Some, None}
 use Rattle.std.specs.declared.result.Result.{Result}
 use Rattle.std.specs.declared.result.Result.the-variants.{Ok, Err}
-use Rattle.formula.specs.Admission.{Answers, FirstBad, Refused, Sized, allBelow, allowed, countedBy, fault, inputKnown}
+use Rattle.formula.specs.Admission.{Answers, FirstBad, Refused, Sized, allBelow, allowed, countedBy, wordRefusal, inputKnown}
 use Rattle.formula.specs.Binders.{namedPlaces}
 use Rattle.formula.specs.Words.{shapeAt}
 use Rattle.formula.specs.declared.refusal.Refusal.{Refusal}
@@ -33,7 +33,7 @@ some-check place true true false why h = let e : NoSuchInput place ≡ why = cc 
 some-check place true false i why h = let e : PlaceNotBelow place ≡ why = cc in subst (OfWord place) e below
 some-check place false b i why h = let e : BadLeaf place ≡ why = cc in subst (OfWord place) e leaf
 
-of-word : (inputs : ℕ) (word : Word) (place : ℕ) (why : Refusal) → fault inputs word place ≡ Some why → OfWord place why
+of-word : (inputs : ℕ) (word : Word) (place : ℕ) (why : Refusal) → wordRefusal inputs word place ≡ Some why → OfWord place why
 of-word inputs word place = some-check place (allowed word) (allBelow place (namedPlaces word)) (inputKnown inputs word)
 
 all-below : (place : ℕ) (l b i : Bool) → isSome (checked place l b i) ≡ false → b ≡ true
@@ -42,7 +42,7 @@ all-below place true false i h = cc
 all-below place false b i h = let z : _≡_ {A = Bool} true false = h in grind arith
 
 -- a word that passes its checks names places below its own
-pub names-below : (inputs : ℕ) (word : Word) (place : ℕ) → isSome (fault inputs word place) ≡ false → allBelow place (namedPlaces word) ≡ true
+pub names-below : (inputs : ℕ) (word : Word) (place : ℕ) → isSome (wordRefusal inputs word place) ≡ false → allBelow place (namedPlaces word) ≡ true
 names-below inputs word place = all-below place (allowed word) (allBelow place (namedPlaces word)) (inputKnown inputs word)
 
 -- the first bad word is refused by the check that it fails, with the counts before it written
