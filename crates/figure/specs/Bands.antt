@@ -1,0 +1,75 @@
+-- What bands mean. Assumes nothing.
+use mathlib.Core.Path.{_≡_}
+use mathlib.Core.Bool.{Bool, true, cond, _&&_}
+use lib.IntN.{ℤ, pos}
+use lib.Signed.{_≤ℤ_}
+use native.Mathlib.Omega.{arith}
+use Rattle.std.proofs.shelf.Signed.{clamps, ints}
+use Rattle.std.specs.Numbers.{maxZ, minZ}
+use Rattle.std.specs.declared.result.Result.{Result}
+use Rattle.std.specs.declared.result.Result.the-variants.{Ok, Err}
+use Rattle.formula.specs.declared.Operation.{Operation}
+use Rattle.formula.specs.declared.Operation.the-variants.{Add, Sub, Mul, Div, Min, Max}
+use Rattle.figure.specs.declared.band.Bands.{Bands}
+use Rattle.figure.specs.declared.ends.Ends.{Ends}
+use Rattle.figure.specs.declared.fault.FigureFault.{FigureFault}
+use Rattle.figure.specs.declared.fault.FigureFault.the-variants.{OutOfRange, ZeroDivisor}
+use Rattle.figure.specs.Exact.{divides, exact, inRange, within}
+use Rattle.figure.specs.Ticks.{tick}
+
+abbrev pub low : Bands → ℤ
+low x = x .low .0
+
+abbrev pub high : Bands → ℤ
+high x = x .high .0
+
+pub in-order : (a b : ℤ) → minZ a b ≤ℤ maxZ a b
+in-order a b = omega (arith, ints, clamps)
+
+-- the band of two numbers, the smaller its low end
+abbrev pub band : ℤ → ℤ → Bands
+band a b = record { low = tick (minZ a b); high = tick (maxZ a b); ordered = in-order a b }
+
+-- the band of one number
+abbrev pub point : ℤ → Bands
+point n = band n n
+
+abbrev pub ends : ℤ → ℤ → Ends
+ends a b = record { low = a; high = b }
+
+abbrev pub around : ℤ → ℤ → Ends
+around a b = ends (minZ a b) (maxZ a b)
+
+-- the operation at the two low ends and at the two high ends
+abbrev pub endByEnd : Operation → Bands → Bands → Ends
+endByEnd op x y = ends (exact op (low x) (low y)) (exact op (high x) (high y))
+
+abbrev pub crossed : Operation → Bands → Bands → Ends
+crossed op x y = ends (exact op (low x) (high y)) (exact op (high x) (low y))
+
+-- the least and the greatest of four results
+abbrev pub extremes : ℤ → ℤ → ℤ → ℤ → Ends
+extremes a b c d = ends (minZ (minZ a b) (minZ c d)) (maxZ (maxZ a b) (maxZ c d))
+
+-- the least and the greatest of the operation's results at each end with each end
+abbrev pub corners : Operation → Bands → Bands → Ends
+corners op x y = extremes (exact op (low x) (low y)) (exact op (low x) (high y)) (exact op (high x) (low y)) (exact op (high x) (high y))
+
+-- the ends of an operation's result, before the test of the range
+abbrev pub endsOf : Operation → Bands → Bands → Ends
+endsOf Add x y = endByEnd Add x y
+endsOf Sub x y = crossed Sub x y
+endsOf Mul x y = corners Mul x y
+endsOf Div x y = corners Div x y
+endsOf Min x y = endByEnd Min x y
+endsOf Max x y = endByEnd Max x y
+
+-- two ends as a band, where both are in range
+abbrev pub rangedEnds : Ends → Result Bands FigureFault
+rangedEnds e = cond (inRange (e .low) && inRange (e .high)) (Ok (band (e .low) (e .high))) (Err OutOfRange)
+
+abbrev pub holdsZero : Bands → Bool
+holdsZero x = within (low x) (high x) (pos 0)
+
+abbrev pub bandOutcome : Operation → Bands → Bands → Result Bands FigureFault
+bandOutcome op x y = cond (divides op && holdsZero y) (Err ZeroDivisor) (rangedEnds (endsOf op x y))

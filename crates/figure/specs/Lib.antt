@@ -1,0 +1,4 @@
+pub mod Bands
+pub mod Exact
+pub mod Faults
+pub mod Ticks

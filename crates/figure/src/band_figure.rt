@@ -1,0 +1,76 @@
+// Bands as a kind of figure.
+ghost use mathlib.Core.Path.{_≡_};
+ghost use lib.Signed.{_≤ℤ_};
+ghost use Rattle.figure.specs.Bands.{band, bandOutcome, holdsZero, point, rangedEnds};
+use crate::band::Bands;
+use crate::ends::{Ends, ends_of};
+use crate::fault::FigureFault;
+use crate::figure::Figure;
+use crate::tick::{in_range, Ticks};
+use formula::{Operation, OperationPartialEq};
+
+impl Bands {
+    // The band of two ticks, the smaller as its low end.
+    pub fn between(a: Ticks, b: Ticks) -> Bands
+        ensures { λ r. ⌜ r ≡ band (a .0) (b .0) ⌝ }
+    {
+        Bands {
+            low: Ticks(a.0.min(b.0)),
+            high: Ticks(a.0.max(b.0)),
+        }
+    }
+
+    pub fn low(self) -> Ticks
+        ensures { λ r. ⌜ r ≡ self .low ⌝ }
+    {
+        self.low
+    }
+
+    pub fn high(self) -> Ticks
+        ensures { λ r. ⌜ r ≡ self .high ⌝ }
+    {
+        self.high
+    }
+
+    fn holds_zero(self) -> bool
+        ensures { λ r. ⌜ r ≡ holdsZero self ⌝ }
+    {
+        self.low.0 <= 0 && 0 <= self.high.0
+    }
+}
+
+pub impl Figure for Bands as BandsFigure {
+    const CODE: u32 = 2;
+
+    ghost kind = { 2 };
+
+    ghost number = { point };
+
+    ghost outcome = { bandOutcome };
+
+    fn kind() -> u32 {
+        Self::CODE
+    }
+
+    fn number(n: i32) -> Bands {
+        Bands::between(Ticks(n), Ticks(n))
+    }
+
+    fn operate(operation: Operation, left: Bands, right: Bands) -> Result<Bands, FigureFault> {
+        if operation == Operation::Div && right.holds_zero() {
+            return Err(FigureFault::ZeroDivisor);
+        }
+        banded(ends_of(operation, left, right))
+    }
+}
+
+// Two ends as a band, where both are in range.
+fn banded(ends: Ends) -> Result<Bands, FigureFault>
+    requires { ⌜ ends .low ≤ℤ ends .high ⌝ }
+    ensures { λ r. ⌜ r ≡ rangedEnds ends ⌝ }
+{
+    Ok(Bands {
+        low: in_range(ends.low)?,
+        high: in_range(ends.high)?,
+    })
+}

@@ -1,0 +1,46 @@
+// Ticks: signed 32-bit numbers.
+ghost use mathlib.Core.Path.{_≡_};
+ghost use Rattle.figure.specs.Ticks.{ranged, tick, tickOutcome};
+use crate::exact::exact;
+use crate::fault::FigureFault;
+use crate::figure::Figure;
+use formula::Operation;
+use formula::OperationPartialEq;
+
+#[derive(Clone, Copy)]
+pub struct Ticks(pub i32);
+
+pub impl Figure for Ticks as TicksFigure {
+    const CODE: u32 = 1;
+
+    ghost kind = { 1 };
+
+    ghost number = { tick };
+
+    ghost outcome = { tickOutcome };
+
+    fn kind() -> u32 {
+        Self::CODE
+    }
+
+    fn number(n: i32) -> Ticks {
+        Ticks(n)
+    }
+
+    fn operate(operation: Operation, left: Ticks, right: Ticks) -> Result<Ticks, FigureFault> {
+        if operation == Operation::Div && right.0 == 0 {
+            return Err(FigureFault::ZeroDivisor);
+        }
+        in_range(exact(operation, left, right))
+    }
+}
+
+pub fn in_range(exact: i64) -> Result<Ticks, FigureFault>
+    ensures { λ r. ⌜ r ≡ ranged exact ⌝ }
+{
+    if -0x8000_0000 <= exact && exact <= 0x7fff_ffff {
+        Ok(Ticks(exact as i32))
+    } else {
+        Err(FigureFault::OutOfRange)
+    }
+}
