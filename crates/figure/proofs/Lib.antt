@@ -1,3 +1,4 @@
 mod Fits
 mod Orders
+mod Points
 mod Ranges

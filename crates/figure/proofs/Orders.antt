@@ -8,6 +8,7 @@ use Rattle.std.proofs.shelf.Signed.{clamps, ints}
 use Rattle.formula.specs.declared.Operation.{Operation}
 use Rattle.formula.specs.declared.Operation.the-variants.{Add, Sub, Mul, Div, Min, Max}
 use Rattle.figure.specs.declared.band.Bands.{Bands}
+use Rattle.figure.specs.declared.ends.Ends.{Ends}
 use Rattle.figure.specs.declared.tick.Ticks.{Ticks}
 use Rattle.figure.specs.Bands.{endsOf}
 
@@ -21,8 +22,8 @@ pub same-ends : (x y : Bands) → x .low ≡ y .low → x .high ≡ y .high → 
 unfolding of-ends
 same-ends x y p q =
     subst (λ l. (o : l .0 ≤ℤ y .high .0) → x ≡ of-ends l (y .high) o) p
-      (subst (λ h. (o : x .low .0 ≤ℤ h .0) → x ≡ of-ends (x .low) h o) q (λ o. ap (of-ends (x .low) (x .high)) (one-order (x .ordered) o)))
-      (y .ordered)
+    (subst (λ h. (o : x .low .0 ≤ℤ h .0) → x ≡ of-ends (x .low) h o) q (λ o. ap (of-ends (x .low) (x .high)) (one-order (x .ordered) o)))
+    (y .ordered)
 
 pub ends-in-order : (op : Operation) (x y : Bands) → endsOf op x y .low ≤ℤ endsOf op x y .high
 ends-in-order Add x y = omega (arith, ints, x .ordered, y .ordered)
@@ -31,3 +32,6 @@ ends-in-order Mul x y = omega (arith, ints, clamps)
 ends-in-order Div x y = omega (arith, ints, clamps)
 ends-in-order Min x y = omega (arith, ints, clamps, x .ordered, y .ordered)
 ends-in-order Max x y = omega (arith, ints, clamps, x .ordered, y .ordered)
+
+pub in-order-as : (op : Operation) (x y : Bands) {e : Ends} → e ≡ endsOf op x y → e .low ≤ℤ e .high
+in-order-as op x y h = rw h (ends-in-order op x y)

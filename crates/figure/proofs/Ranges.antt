@@ -26,13 +26,13 @@ chosen false s t h = let z : _≡_ {A = ℕ} 0 1 = cc in absurd (omega arith)
 in-range : (t : Ticks) (z : ℤ) → _≡_ {A = Result Ticks FigureFault} (Ok t) (ranged z) → (inRange z ≡ true) × (t ≡ tick z)
 in-range t z h = chosen (inRange z) (tick z) t h
 
-min-of : (a b : ℤ) → a ≤ℤ b → minZ a b ≡ a
+pub min-of : (a b : ℤ) → a ≤ℤ b → minZ a b ≡ a
 min-of a b h = omega (arith, ints, clamps, h)
 
-max-of : (a b : ℤ) → a ≤ℤ b → maxZ a b ≡ b
+pub max-of : (a b : ℤ) → a ≤ℤ b → maxZ a b ≡ b
 max-of a b h = omega (arith, ints, clamps, h)
 
-pub both-ranged : (e : Ends) (x : Bands) → e .low ≤ℤ e .high 
+pub both-ranged : (e : Ends) (x : Bands) → e .low ≤ℤ e .high
     → _≡_ {A = Result Ticks FigureFault} (Ok (x .low)) (ranged (e .low)) → _≡_ {A = Result Ticks FigureFault} (Ok (x .high)) (ranged (e .high))
     → _≡_ {A = Result Bands FigureFault} (Ok x) (rangedEnds e)
 both-ranged e x o p q =

@@ -1,6 +1,6 @@
 -- What bands mean. Assumes nothing.
 use mathlib.Core.Path.{_≡_}
-use mathlib.Core.Bool.{Bool, true, cond, _&&_}
+use mathlib.Core.Bool.{Bool, true, cond, _&&_, _||_}
 use lib.IntN.{ℤ, pos}
 use lib.Signed.{_≤ℤ_}
 use native.Mathlib.Omega.{arith}
@@ -15,7 +15,7 @@ use Rattle.figure.specs.declared.ends.Ends.{Ends}
 use Rattle.figure.specs.declared.fault.FigureFault.{FigureFault}
 use Rattle.figure.specs.declared.fault.FigureFault.the-variants.{OutOfRange, ZeroDivisor}
 use Rattle.figure.specs.Exact.{divides, exact, inRange, within}
-use Rattle.figure.specs.Ticks.{tick}
+use Rattle.figure.specs.Ticks.{isZero, tick}
 
 abbrev pub low : Bands → ℤ
 low x = x .low .0
@@ -70,6 +70,9 @@ rangedEnds e = cond (inRange (e .low) && inRange (e .high)) (Ok (band (e .low) (
 
 abbrev pub holdsZero : Bands → Bool
 holdsZero x = within (low x) (high x) (pos 0)
+
+abbrev pub zeroEnd : Bands → Bool
+zeroEnd x = isZero (x .low) || isZero (x .high)
 
 abbrev pub bandOutcome : Operation → Bands → Bands → Result Bands FigureFault
 bandOutcome op x y = cond (divides op && holdsZero y) (Err ZeroDivisor) (rangedEnds (endsOf op x y))

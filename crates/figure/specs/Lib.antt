@@ -1,4 +1,5 @@
 pub mod Bands
 pub mod Exact
 pub mod Faults
+pub mod Laws
 pub mod Ticks

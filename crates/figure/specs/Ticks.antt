@@ -17,7 +17,7 @@ abbrev pub ranged : ℤ → Result Ticks FigureFault
 ranged z = cond (inRange z) (Ok (tick z)) (Err OutOfRange)
 
 abbrev pub isZero : Ticks → Bool
-isZero a = within (pos 0) (pos 0) (a .0)
+isZero a = within (a .0) (a .0) (pos 0)
 
 abbrev pub tickOutcome : Operation → Ticks → Ticks → Result Ticks FigureFault
 tickOutcome op a b = cond (divides op && isZero b) (Err ZeroDivisor) (ranged (exact op (a .0) (b .0)))

@@ -3,11 +3,14 @@ ghost use mathlib.Core.Path.{_≡_};
 ghost use lib.Signed.{_≤ℤ_};
 ghost use Rattle.figure.specs.Bands.{band, bandOutcome, holdsZero, point, rangedEnds};
 use crate::band::Bands;
-use crate::ends::{Ends, ends_of};
+use crate::ends::Ends;
+use crate::ends::ends_of;
 use crate::fault::FigureFault;
 use crate::figure::Figure;
-use crate::tick::{in_range, Ticks};
-use formula::{Operation, OperationPartialEq};
+use crate::tick::Ticks;
+use crate::tick::in_range;
+use formula::Operation;
+use formula::OperationPartialEq;
 
 impl Bands {
     // The band of two ticks, the smaller as its low end.

@@ -1,8 +1,9 @@
 // The two ends of a result, before the test of the range.
 ghost use mathlib.Core.Path.{_≡_};
 ghost use mathlib.Core.Bool.{_&&_, false};
+ghost use lib.Signed.{_≤ℤ_};
 ghost use Rattle.std.specs.Numbers.{maxZ, minZ};
-ghost use Rattle.figure.specs.Bands.{around, corners, crossed, endByEnd, ends, endsOf, high, holdsZero, low};
+ghost use Rattle.figure.specs.Bands.{around, corners, crossed, endByEnd, ends, endsOf, high, low, zeroEnd};
 ghost use Rattle.figure.specs.Exact.{divides, exact};
 use crate::band::Bands;
 use crate::exact::exact;
@@ -38,8 +39,9 @@ impl Ends {
 }
 
 pub fn ends_of(operation: Operation, left: Bands, right: Bands) -> Ends
-    requires { ⌜ (divides operation && holdsZero right) ≡ false ⌝ }
-    ensures { λ r. ⌜ r ≡ endsOf operation left right ⌝ }
+    requires { ⌜ (divides operation && zeroEnd right) ≡ false ⌝ }
+    ensures ends { λ r. ⌜ r ≡ endsOf operation left right ⌝ }
+    ensures ordered { λ r. ⌜ r .low ≤ℤ r .high ⌝ }
 {
     match operation {
         Operation::Add | Operation::Min | Operation::Max => end_by_end(operation, left, right),
@@ -49,7 +51,7 @@ pub fn ends_of(operation: Operation, left: Bands, right: Bands) -> Ends
 }
 
 fn end_by_end(operation: Operation, left: Bands, right: Bands) -> Ends
-    requires { ⌜ (divides operation && holdsZero right) ≡ false ⌝ }
+    requires { ⌜ (divides operation && zeroEnd right) ≡ false ⌝ }
     ensures { λ r. ⌜ r ≡ endByEnd operation left right ⌝ }
 {
     Ends {
@@ -59,7 +61,7 @@ fn end_by_end(operation: Operation, left: Bands, right: Bands) -> Ends
 }
 
 fn crossed(operation: Operation, left: Bands, right: Bands) -> Ends
-    requires { ⌜ (divides operation && holdsZero right) ≡ false ⌝ }
+    requires { ⌜ (divides operation && zeroEnd right) ≡ false ⌝ }
     ensures { λ r. ⌜ r ≡ crossed operation left right ⌝ }
 {
     Ends {
@@ -69,15 +71,18 @@ fn crossed(operation: Operation, left: Bands, right: Bands) -> Ends
 }
 
 fn corners(operation: Operation, left: Bands, right: Bands) -> Ends
-    requires { ⌜ (divides operation && holdsZero right) ≡ false ⌝ }
+    requires { ⌜ (divides operation && zeroEnd right) ≡ false ⌝ }
     ensures { λ r. ⌜ r ≡ corners operation left right ⌝ }
 {
     at_both_ends(operation, left.low, right).join(at_both_ends(operation, left.high, right))
 }
 
 fn at_both_ends(operation: Operation, a: Ticks, right: Bands) -> Ends
-    requires { ⌜ (divides operation && holdsZero right) ≡ false ⌝ }
+    requires { ⌜ (divides operation && zeroEnd right) ≡ false ⌝ }
     ensures { λ r. ⌜ r ≡ around (exact operation (a .0) (low right)) (exact operation (a .0) (high right)) ⌝ }
 {
-    Ends::around(exact(operation, a, right.low), exact(operation, a, right.high))
+    Ends::around(
+        exact(operation, a, right.low),
+        exact(operation, a, right.high),
+    )
 }

@@ -5,7 +5,9 @@ mod ends;
 mod exact;
 mod fault;
 mod figure;
+mod laws;
 mod tick;
+
 pub use band::Bands;
 pub use fault::FigureFault;
 pub use figure::Figure;

@@ -12,5 +12,5 @@ returns c =
     let f : SFits w64 (c .args .ends .low) = search needs in
     let g : SFits w64 (c .args .ends .high) = search needs in
     both-ranged (c .args .ends) _ (c .pre)
-      (c .in-Continue-in-range .ensures tt ∙ ap ranged (toZ-ofZ w64 _ f))
-      (c .in-Continue-in-range-2 .ensures tt ∙ ap ranged (toZ-ofZ w64 _ g))
+    (c .in-Continue-in-range .ensures tt ∙ ap ranged (toZ-ofZ w64 _ f))
+    (c .in-Continue-in-range-2 .ensures tt ∙ ap ranged (toZ-ofZ w64 _ g))
