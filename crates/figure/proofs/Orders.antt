@@ -1,10 +1,11 @@
--- Bands with the same ends are the same.
+-- The order of a band's ends.
 use mathlib.Core.Path.{_≡_, ap, subst}
 use lib.Dec.{T-prop}
 use lib.IntN.{ℤ}
 use lib.Signed.{_≤ℤ_, leZ}
 use native.Mathlib.Omega.{arith}
 use Rattle.std.proofs.shelf.Signed.{clamps, ints}
+use Rattle.std.specs.Numbers.{maxZ, minZ}
 use Rattle.formula.specs.declared.Operation.{Operation}
 use Rattle.formula.specs.declared.Operation.the-variants.{Add, Sub, Mul, Div, Min, Max}
 use Rattle.figure.specs.declared.band.Bands.{Bands}
@@ -24,6 +25,12 @@ same-ends x y p q =
     subst (λ l. (o : l .0 ≤ℤ y .high .0) → x ≡ of-ends l (y .high) o) p
     (subst (λ h. (o : x .low .0 ≤ℤ h .0) → x ≡ of-ends (x .low) h o) q (λ o. ap (of-ends (x .low) (x .high)) (one-order (x .ordered) o)))
     (y .ordered)
+
+pub min-of : (a b : ℤ) → a ≤ℤ b → minZ a b ≡ a
+min-of a b h = omega (arith, ints, clamps, h)
+
+pub max-of : (a b : ℤ) → a ≤ℤ b → maxZ a b ≡ b
+max-of a b h = omega (arith, ints, clamps, h)
 
 pub ends-in-order : (op : Operation) (x y : Bands) → endsOf op x y .low ≤ℤ endsOf op x y .high
 ends-in-order Add x y = omega (arith, ints, x .ordered, y .ordered)

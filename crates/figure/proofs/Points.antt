@@ -1,4 +1,4 @@
--- Bands of one number.
+-- Operations on bands of one number.
 use mathlib.Core.Path.{_≡_, ap, ap₂, refl, sym, _∙_}
 use mathlib.Core.Bool.{Bool, true, false, cond, _&&_}
 use lib.IntN.{ℤ}
@@ -9,16 +9,14 @@ use Rattle.std.specs.declared.result.Result.the-variants.{Ok, Err}
 use Rattle.formula.specs.declared.Operation.{Operation}
 use Rattle.formula.specs.declared.Operation.the-variants.{Add, Sub, Mul, Div, Min, Max}
 use Rattle.figure.specs.declared.band.Bands.{Bands}
-use Rattle.figure.specs.declared.ends.Ends.{Ends}
 use Rattle.figure.specs.declared.fault.FigureFault.{FigureFault}
 use Rattle.figure.specs.declared.fault.FigureFault.the-variants.{OutOfRange, ZeroDivisor}
 use Rattle.figure.specs.declared.tick.Ticks.{Ticks}
-use Rattle.figure.specs.Bands.{band, bandOutcome, ends, endsOf, extremes, high, holdsZero, low, point, rangedEnds}
+use Rattle.figure.specs.Bands.{around, band, bandOutcome, ends, endsOf, highEnd, holdsZero, joined, lowEnd, point, rangedEnds}
 use Rattle.figure.specs.Exact.{divides, exact, inRange}
-use Rattle.figure.specs.Laws.{Keeps, doubled}
+use Rattle.figure.specs.Laws.{doubled}
 use Rattle.figure.specs.Ticks.{isZero, ranged, tick, tickOutcome}
-use Rattle.figure.proofs.Orders.{ends-in-order}
-use Rattle.figure.proofs.Ranges.{max-of, min-of}
+use Rattle.figure.proofs.Orders.{max-of, min-of}
 
 min-same : (a : ℤ) → minZ a a ≡ a
 min-same a = min-of a a (≤ℤ-refl a)
@@ -26,15 +24,15 @@ min-same a = min-of a a (≤ℤ-refl a)
 max-same : (a : ℤ) → maxZ a a ≡ a
 max-same a = max-of a a (≤ℤ-refl a)
 
-extremes-same : (e : ℤ) → extremes e e e e ≡ ends e e
-extremes-same e = rw (min-same e, min-same e) refl
+corners-same : (e : ℤ) → joined (around e e) (around e e) ≡ ends e e
+corners-same e = rw (min-same e, min-same e) refl
 
 -- bands whose two ends are one number
-ends-at : (op : Operation) (x y : Bands) (a b : ℤ) → low x ≡ a → high x ≡ a → low y ≡ b → high y ≡ b → endsOf op x y ≡ ends (exact op a b) (exact op a b)
+ends-at : (op : Operation) (x y : Bands) (a b : ℤ) → lowEnd x ≡ a → highEnd x ≡ a → lowEnd y ≡ b → highEnd y ≡ b → endsOf op x y ≡ ends (exact op a b) (exact op a b)
 ends-at Add x y a b p q r s = ap₂ ends (ap₂ (exact Add) p r) (ap₂ (exact Add) q s)
 ends-at Sub x y a b p q r s = ap₂ ends (ap₂ (exact Sub) p s) (ap₂ (exact Sub) q r)
-ends-at Mul x y a b p q r s = rw (ap₂ (exact Mul) p r, ap₂ (exact Mul) p s, ap₂ (exact Mul) q r, ap₂ (exact Mul) q s) (extremes-same (exact Mul a b))
-ends-at Div x y a b p q r s = rw (ap₂ (exact Div) p r, ap₂ (exact Div) p s, ap₂ (exact Div) q r, ap₂ (exact Div) q s) (extremes-same (exact Div a b))
+ends-at Mul x y a b p q r s = rw (ap₂ (exact Mul) p r, ap₂ (exact Mul) p s, ap₂ (exact Mul) q r, ap₂ (exact Mul) q s) (corners-same (exact Mul a b))
+ends-at Div x y a b p q r s = rw (ap₂ (exact Div) p r, ap₂ (exact Div) p s, ap₂ (exact Div) q r, ap₂ (exact Div) q s) (corners-same (exact Div a b))
 ends-at Min x y a b p q r s = ap₂ ends (ap₂ (exact Min) p r) (ap₂ (exact Min) q s)
 ends-at Max x y a b p q r s = ap₂ ends (ap₂ (exact Max) p r) (ap₂ (exact Max) q s)
 
@@ -56,14 +54,3 @@ pub at-points : (op : Operation) (a b : ℤ) → bandOutcome op (point a) (point
 at-points op a b =
     divided (divides op && holdsZero (point b)) (divides op && isZero (tick b)) _ _ (ap (λ z. divides op && z) (zero-at b))
     (ap rangedEnds (ends-at op (point a) (point b) a b (min-same a) (max-same a) (min-same b) (max-same b)) ∙ ranged-at (exact op a b))
-
-kept : (b : Bool) (o : Operation) (x y : Bands) → Keeps (endsOf o x y) (cond b (Ok (band (endsOf o x y .low) (endsOf o x y .high))) (Err OutOfRange))
-kept true o x y = (min-of _ _ (ends-in-order o x y), max-of _ _ (ends-in-order o x y))
-kept false o x y = tt
-
-kept-or-divided : (b : Bool) (e : Ends) (r : Result Bands FigureFault) → Keeps e r → Keeps e (cond b (Err ZeroDivisor) r)
-kept-or-divided true e r k = tt
-kept-or-divided false e r k = k
-
-pub ends-kept : (op : Operation) (x y : Bands) → Keeps (endsOf op x y) (bandOutcome op x y)
-ends-kept op x y = kept-or-divided (divides op && holdsZero y) _ _ (kept (inRange (endsOf op x y .low) && inRange (endsOf op x y .high)) op x y)

@@ -1,6 +1,5 @@
 -- What bands mean. Assumes nothing.
-use mathlib.Core.Path.{_≡_}
-use mathlib.Core.Bool.{Bool, true, cond, _&&_, _||_}
+use mathlib.Core.Bool.{Bool, cond, _&&_, _||_}
 use lib.IntN.{ℤ, pos}
 use lib.Signed.{_≤ℤ_}
 use native.Mathlib.Omega.{arith}
@@ -17,16 +16,16 @@ use Rattle.figure.specs.declared.fault.FigureFault.the-variants.{OutOfRange, Z
 use Rattle.figure.specs.Exact.{divides, exact, inRange, within}
 use Rattle.figure.specs.Ticks.{isZero, tick}
 
-abbrev pub low : Bands → ℤ
-low x = x .low .0
+abbrev pub lowEnd : Bands → ℤ
+lowEnd x = x .low .0
 
-abbrev pub high : Bands → ℤ
-high x = x .high .0
+abbrev pub highEnd : Bands → ℤ
+highEnd x = x .high .0
 
 pub in-order : (a b : ℤ) → minZ a b ≤ℤ maxZ a b
 in-order a b = omega (arith, ints, clamps)
 
--- the band of two numbers, the smaller its low end
+-- the band of two numbers, the smaller as its low end
 abbrev pub band : ℤ → ℤ → Bands
 band a b = record { low = tick (minZ a b); high = tick (maxZ a b); ordered = in-order a b }
 
@@ -37,25 +36,29 @@ point n = band n n
 abbrev pub ends : ℤ → ℤ → Ends
 ends a b = record { low = a; high = b }
 
+-- at the two low ends, and at the two high ends
+abbrev pub endByEnd : Operation → Bands → Bands → Ends
+endByEnd op x y = ends (exact op (lowEnd x) (lowEnd y)) (exact op (highEnd x) (highEnd y))
+
+-- at each end of the first with the other end of the second
+abbrev pub crossed : Operation → Bands → Bands → Ends
+crossed op x y = ends (exact op (lowEnd x) (highEnd y)) (exact op (highEnd x) (lowEnd y))
+
+-- two results in order
 abbrev pub around : ℤ → ℤ → Ends
 around a b = ends (minZ a b) (maxZ a b)
 
--- the operation at the two low ends and at the two high ends
-abbrev pub endByEnd : Operation → Bands → Bands → Ends
-endByEnd op x y = ends (exact op (low x) (low y)) (exact op (high x) (high y))
+-- the lower of the low ends and the higher of the high ends
+abbrev pub joined : Ends → Ends → Ends
+joined p q = ends (minZ (p .low) (q .low)) (maxZ (p .high) (q .high))
 
-abbrev pub crossed : Operation → Bands → Bands → Ends
-crossed op x y = ends (exact op (low x) (high y)) (exact op (high x) (low y))
-
--- the least and the greatest of four results
-abbrev pub extremes : ℤ → ℤ → ℤ → ℤ → Ends
-extremes a b c d = ends (minZ (minZ a b) (minZ c d)) (maxZ (maxZ a b) (maxZ c d))
-
--- the least and the greatest of the operation's results at each end with each end
+-- the least and the greatest of the four results at the ends
 abbrev pub corners : Operation → Bands → Bands → Ends
-corners op x y = extremes (exact op (low x) (low y)) (exact op (low x) (high y)) (exact op (high x) (low y)) (exact op (high x) (high y))
+corners op x y =
+    joined (around (exact op (lowEnd x) (lowEnd y)) (exact op (lowEnd x) (highEnd y)))
+    (around (exact op (highEnd x) (lowEnd y)) (exact op (highEnd x) (highEnd y)))
 
--- the ends of an operation's result, before the test of the range
+-- the ends of the result, before the test of the range
 abbrev pub endsOf : Operation → Bands → Bands → Ends
 endsOf Add x y = endByEnd Add x y
 endsOf Sub x y = crossed Sub x y
@@ -69,10 +72,11 @@ abbrev pub rangedEnds : Ends → Result Bands FigureFault
 rangedEnds e = cond (inRange (e .low) && inRange (e .high)) (Ok (band (e .low) (e .high))) (Err OutOfRange)
 
 abbrev pub holdsZero : Bands → Bool
-holdsZero x = within (low x) (high x) (pos 0)
-
-abbrev pub zeroEnd : Bands → Bool
-zeroEnd x = isZero (x .low) || isZero (x .high)
+holdsZero x = within (lowEnd x) (highEnd x) (pos 0)
 
 abbrev pub bandOutcome : Operation → Bands → Bands → Result Bands FigureFault
 bandOutcome op x y = cond (divides op && holdsZero y) (Err ZeroDivisor) (rangedEnds (endsOf op x y))
+
+-- a band that cannot be divided by at its ends
+abbrev pub zeroEnd : Bands → Bool
+zeroEnd x = isZero (x .low) || isZero (x .high)

@@ -23,18 +23,6 @@ impl Bands {
         }
     }
 
-    pub fn low(self) -> Ticks
-        ensures { λ r. ⌜ r ≡ self .low ⌝ }
-    {
-        self.low
-    }
-
-    pub fn high(self) -> Ticks
-        ensures { λ r. ⌜ r ≡ self .high ⌝ }
-    {
-        self.high
-    }
-
     fn holds_zero(self) -> bool
         ensures { λ r. ⌜ r ≡ holdsZero self ⌝ }
     {

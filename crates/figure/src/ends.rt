@@ -2,8 +2,7 @@
 ghost use mathlib.Core.Path.{_≡_};
 ghost use mathlib.Core.Bool.{_&&_, false};
 ghost use lib.Signed.{_≤ℤ_};
-ghost use Rattle.std.specs.Numbers.{maxZ, minZ};
-ghost use Rattle.figure.specs.Bands.{around, corners, crossed, endByEnd, ends, endsOf, high, low, zeroEnd};
+ghost use Rattle.figure.specs.Bands.{around, corners, crossed, endByEnd, endsOf, highEnd, joined, lowEnd, zeroEnd};
 ghost use Rattle.figure.specs.Exact.{divides, exact};
 use crate::band::Bands;
 use crate::exact::exact;
@@ -11,14 +10,14 @@ use crate::tick::Ticks;
 use formula::Operation;
 
 #[derive(Clone, Copy)]
-pub struct Ends {
-    pub low: i64,
-    pub high: i64,
+pub(crate) struct Ends {
+    pub(crate) low: i64,
+    pub(crate) high: i64,
 }
 
 impl Ends {
     // Two results, the smaller as the low end.
-    pub fn around(a: i64, b: i64) -> Ends
+    fn around(a: i64, b: i64) -> Ends
         ensures { λ r. ⌜ r ≡ around a b ⌝ }
     {
         Ends {
@@ -28,8 +27,8 @@ impl Ends {
     }
 
     // The lower of the low ends and the higher of the high ends.
-    pub fn join(self, other: Ends) -> Ends
-        ensures { λ r. ⌜ r ≡ ends (minZ (self .low) (other .low)) (maxZ (self .high) (other .high)) ⌝ }
+    fn join(self, other: Ends) -> Ends
+        ensures { λ r. ⌜ r ≡ joined self other ⌝ }
     {
         Ends {
             low: self.low.min(other.low),
@@ -38,7 +37,7 @@ impl Ends {
     }
 }
 
-pub fn ends_of(operation: Operation, left: Bands, right: Bands) -> Ends
+pub(crate) fn ends_of(operation: Operation, left: Bands, right: Bands) -> Ends
     requires { ⌜ (divides operation && zeroEnd right) ≡ false ⌝ }
     ensures ends { λ r. ⌜ r ≡ endsOf operation left right ⌝ }
     ensures ordered { λ r. ⌜ r .low ≤ℤ r .high ⌝ }
@@ -79,7 +78,7 @@ fn corners(operation: Operation, left: Bands, right: Bands) -> Ends
 
 fn at_both_ends(operation: Operation, a: Ticks, right: Bands) -> Ends
     requires { ⌜ (divides operation && zeroEnd right) ≡ false ⌝ }
-    ensures { λ r. ⌜ r ≡ around (exact operation (a .0) (low right)) (exact operation (a .0) (high right)) ⌝ }
+    ensures { λ r. ⌜ r ≡ around (exact operation (a .0) (lowEnd right)) (exact operation (a .0) (highEnd right)) ⌝ }
 {
     Ends::around(
         exact(operation, a, right.low),

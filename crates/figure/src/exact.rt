@@ -6,7 +6,7 @@ ghost use Rattle.figure.specs.Ticks.{isZero};
 use crate::tick::Ticks;
 use formula::Operation;
 
-pub fn exact(operation: Operation, a: Ticks, b: Ticks) -> i64
+pub(crate) fn exact(operation: Operation, a: Ticks, b: Ticks) -> i64
     requires { ⌜ (divides operation && isZero b) ≡ false ⌝ }
     ensures { λ r. ⌜ r ≡ exact operation (a .0) (b .0) ⌝ }
 {

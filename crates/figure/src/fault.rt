@@ -4,7 +4,9 @@ ghost use Rattle.figure.specs.Faults.{faultNumber};
 
 #[derive(Clone, Copy, PartialEq, Eq, Debug)]
 pub enum FigureFault {
+    // The kind has no figure for the result.
     OutOfRange,
+    // A division by zero, or by a figure that may be zero.
     ZeroDivisor,
 }
 

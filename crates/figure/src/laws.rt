@@ -5,7 +5,7 @@ ghost use lib.Signed.{_≤ℤ_};
 ghost use Rattle.formula.specs.declared.Operation.the-variants.{Div, Mul};
 ghost use Rattle.std.specs.declared.result.Result.the-variants.{Ok};
 ghost use Rattle.figure.specs.Bands.{band, bandOutcome, endsOf, point};
-ghost use Rattle.figure.specs.Laws.{Keeps, doubled};
+ghost use Rattle.figure.specs.Laws.{HasEnds, doubled};
 ghost use Rattle.figure.specs.Ticks.{tick, tickOutcome};
 use crate::band::Bands;
 use crate::band_figure::BandsFigure;
@@ -46,7 +46,7 @@ pub fn ends_stay_ordered(
     right: Bands,
 ) -> Result<Bands, FigureFault>
     ensures ordered { λ _. ⌜ endsOf operation left right .low ≤ℤ endsOf operation left right .high ⌝ }
-    ensures kept { λ r. ⌜ Keeps (endsOf operation left right) r ⌝ }
+    ensures kept { λ r. ⌜ HasEnds (endsOf operation left right) r ⌝ }
 {
     ends_in_order(operation, left, right);
     Bands::operate(operation, left, right)
@@ -54,7 +54,7 @@ pub fn ends_stay_ordered(
 
 fn ends_in_order(operation: Operation, left: Bands, right: Bands)
     ensures ordered { λ _. ⌜ endsOf operation left right .low ≤ℤ endsOf operation left right .high ⌝ }
-    ensures kept { λ _. ⌜ Keeps (endsOf operation left right) (bandOutcome operation left right) ⌝ }
+    ensures kept { λ _. ⌜ HasEnds (endsOf operation left right) (bandOutcome operation left right) ⌝ }
 {}
 
 // On bands of one number each, bands answer as ticks do, at both ends.

@@ -35,10 +35,15 @@ pub impl Figure for Ticks as TicksFigure {
     }
 }
 
-pub fn in_range(exact: i64) -> Result<Ticks, FigureFault>
+const LEAST: i64 = -2_147_483_648;
+
+const GREATEST: i64 = 2_147_483_647;
+
+// An exact result as a tick, where it is in range.
+pub(crate) fn in_range(exact: i64) -> Result<Ticks, FigureFault>
     ensures { λ r. ⌜ r ≡ ranged exact ⌝ }
 {
-    if -0x8000_0000 <= exact && exact <= 0x7fff_ffff {
+    if LEAST <= exact && exact <= GREATEST {
         Ok(Ticks(exact as i32))
     } else {
         Err(FigureFault::OutOfRange)

@@ -1,5 +1,5 @@
 use Rattle.figure.proofs.Orders.{ends-in-order}
-use Rattle.figure.proofs.Points.{ends-kept}
+use Rattle.figure.proofs.Ranges.{ends-kept}
 use Rattle.figure.proofs.laws.ends_in_order.Needs as need
 
 pub returns : need.returns
