@@ -1,5 +1,5 @@
 -- The order of a band's ends.
-use mathlib.Core.Path.{_≡_, ap, subst}
+use mathlib.Core.Path.{_≡_, ap, subst, _∙_}
 use lib.Dec.{T-prop}
 use lib.IntN.{ℤ}
 use lib.Signed.{_≤ℤ_, leZ}
@@ -11,7 +11,8 @@ use Rattle.formula.specs.declared.Operation.the-variants.{Add, Sub, Mul, Div, M
 use Rattle.figure.specs.declared.band.Bands.{Bands}
 use Rattle.figure.specs.declared.ends.Ends.{Ends}
 use Rattle.figure.specs.declared.tick.Ticks.{Ticks}
-use Rattle.figure.specs.Bands.{endsOf}
+use Rattle.figure.specs.Bands.{band, endsOf}
+use Rattle.figure.specs.Ticks.{tick}
 
 one-order : {a b : ℤ} (p q : a ≤ℤ b) → p ≡ q
 one-order {a} {b} p q = ap (λ t. record { le = t }) (T-prop (leZ a b) (p .le) (q .le))
@@ -31,6 +32,12 @@ min-of a b h = omega (arith, ints, clamps, h)
 
 pub max-of : (a b : ℤ) → a ≤ℤ b → maxZ a b ≡ b
 max-of a b h = omega (arith, ints, clamps, h)
+
+pub as-band : (l h : Ticks) (o : l .0 ≤ℤ h .0) (x : Bands) → x .low ≡ l → x .high ≡ h → (x ≡ band (l .0) (h .0)) × (x ≡ band (h .0) (l .0))
+as-band l h o x p q = (
+  same-ends x _ (p ∙ ap tick (omega (arith, ints, clamps, o))) (q ∙ ap tick (omega (arith, ints, clamps, o))),
+  same-ends x _ (p ∙ ap tick (omega (arith, ints, clamps, o))) (q ∙ ap tick (omega (arith, ints, clamps, o))),
+)
 
 pub ends-in-order : (op : Operation) (x y : Bands) → endsOf op x y .low ≤ℤ endsOf op x y .high
 ends-in-order Add x y = omega (arith, ints, x .ordered, y .ordered)

@@ -17,10 +17,18 @@ impl Bands {
     pub fn between(a: Ticks, b: Ticks) -> Bands
         ensures { λ r. ⌜ r ≡ band (a .0) (b .0) ⌝ }
     {
-        Bands {
-            low: Ticks(a.0.min(b.0)),
-            high: Ticks(a.0.max(b.0)),
+        if b.0 < a.0 {
+            return Bands::in_order(b, a);
         }
+        Bands::in_order(a, b)
+    }
+
+    fn in_order(low: Ticks, high: Ticks) -> Bands
+        requires { ⌜ low .0 ≤ℤ high .0 ⌝ }
+        ensures band { λ r. ⌜ r ≡ band (low .0) (high .0) ⌝ }
+        ensures either { λ r. ⌜ r ≡ band (high .0) (low .0) ⌝ }
+    {
+        Bands { low, high }
     }
 
     fn holds_zero(self) -> bool
@@ -60,8 +68,5 @@ fn banded(ends: Ends) -> Result<Bands, FigureFault>
     requires { ⌜ ends .low ≤ℤ ends .high ⌝ }
     ensures { λ r. ⌜ r ≡ rangedEnds ends ⌝ }
 {
-    Ok(Bands {
-        low: in_range(ends.low)?,
-        high: in_range(ends.high)?,
-    })
+    Ok(Bands::in_order(in_range(ends.low)?, in_range(ends.high)?))
 }

@@ -11,6 +11,6 @@ pub returns : need.returns
 returns c =
     let f : SFits w64 (c .args .ends .low) = search needs in
     let g : SFits w64 (c .args .ends .high) = search needs in
-    both-ranged (c .args .ends) _ (c .pre)
+    both-ranged (c .args .ends) _ _ _ (c .in-order .ensures .band)
     (c .in-Continue-in-range .ensures tt ∙ ap ranged (toZ-ofZ w64 _ f))
     (c .in-Continue-in-range-2 .ensures tt ∙ ap ranged (toZ-ofZ w64 _ g))
