@@ -22,20 +22,6 @@ impl Bands {
         }
         Bands::in_order(a, b)
     }
-
-    fn in_order(low: Ticks, high: Ticks) -> Bands
-        requires { ⌜ low .0 ≤ℤ high .0 ⌝ }
-        ensures band { λ r. ⌜ r ≡ band (low .0) (high .0) ⌝ }
-        ensures either { λ r. ⌜ r ≡ band (high .0) (low .0) ⌝ }
-    {
-        Bands { low, high }
-    }
-
-    fn holds_zero(self) -> bool
-        ensures { λ r. ⌜ r ≡ holdsZero self ⌝ }
-    {
-        self.low.0 <= 0 && 0 <= self.high.0
-    }
 }
 
 pub impl Figure for Bands as BandsFigure {
@@ -60,6 +46,23 @@ pub impl Figure for Bands as BandsFigure {
             return Err(FigureFault::ZeroDivisor);
         }
         banded(ends_of(operation, left, right))
+    }
+}
+
+impl Bands {
+    // Two ticks that are in order; which is named first makes no difference.
+    fn in_order(low: Ticks, high: Ticks) -> Bands
+        requires { ⌜ low .0 ≤ℤ high .0 ⌝ }
+        ensures band { λ r. ⌜ r ≡ band (low .0) (high .0) ⌝ }
+        ensures either { λ r. ⌜ r ≡ band (high .0) (low .0) ⌝ }
+    {
+        Bands { low, high }
+    }
+
+    fn holds_zero(self) -> bool
+        ensures { λ r. ⌜ r ≡ holdsZero self ⌝ }
+    {
+        self.low.0 <= 0 && 0 <= self.high.0
     }
 }
 

@@ -1,4 +1,4 @@
-// What follows from the meaning of ticks and bands.
+// What follows from the meaning of ticks and bands. A function with an empty body carries a lemma.
 ghost use mathlib.Core.Path.{_≡_};
 ghost use lib.IntN.{negℤ, pos};
 ghost use lib.Signed.{_≤ℤ_};
@@ -45,6 +45,7 @@ pub fn ends_stay_ordered(
     left: Bands,
     right: Bands,
 ) -> Result<Bands, FigureFault>
+    ensures outcome { λ r. ⌜ r ≡ bandOutcome operation left right ⌝ }
     ensures ordered { λ _. ⌜ endsOf operation left right .low ≤ℤ endsOf operation left right .high ⌝ }
     ensures kept { λ r. ⌜ HasEnds (endsOf operation left right) r ⌝ }
 {
@@ -59,7 +60,8 @@ fn ends_in_order(operation: Operation, left: Bands, right: Bands)
 
 // On bands of one number each, bands answer as ticks do, at both ends.
 pub fn points_answer_as_ticks(operation: Operation, a: i32, b: i32) -> Result<Bands, FigureFault>
-    ensures { λ r. ⌜ r ≡ doubled (tickOutcome operation (tick a) (tick b)) ⌝ }
+    ensures rule { λ _. ⌜ bandOutcome operation (point a) (point b) ≡ doubled (tickOutcome operation (tick a) (tick b)) ⌝ }
+    ensures answer { λ r. ⌜ r ≡ doubled (tickOutcome operation (tick a) (tick b)) ⌝ }
 {
     outcome_at_points(operation, a, b);
     Bands::operate(operation, Bands::number(a), Bands::number(b))
