@@ -10,7 +10,6 @@ use crate::figure::Figure;
 use crate::tick::Ticks;
 use crate::tick::in_range;
 use formula::Operation;
-use formula::OperationPartialEq;
 
 impl Bands {
     // The band of two ticks, the smaller as its low end.
@@ -42,10 +41,10 @@ pub impl Figure for Bands as BandsFigure {
     }
 
     fn operate(operation: Operation, left: Bands, right: Bands) -> Result<Bands, FigureFault> {
-        if operation == Operation::Div && right.holds_zero() {
-            return Err(FigureFault::ZeroDivisor);
+        match operation {
+            Operation::Div if right.holds_zero() => Err(FigureFault::ZeroDivisor),
+            _ => banded(ends_of(operation, left, right)),
         }
-        banded(ends_of(operation, left, right))
     }
 }
 

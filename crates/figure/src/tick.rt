@@ -5,7 +5,6 @@ use crate::exact::exact;
 use crate::fault::FigureFault;
 use crate::figure::Figure;
 use formula::Operation;
-use formula::OperationPartialEq;
 
 #[derive(Clone, Copy)]
 pub struct Ticks(pub i32);
@@ -28,10 +27,10 @@ pub impl Figure for Ticks as TicksFigure {
     }
 
     fn operate(operation: Operation, left: Ticks, right: Ticks) -> Result<Ticks, FigureFault> {
-        if operation == Operation::Div && right.0 == 0 {
-            return Err(FigureFault::ZeroDivisor);
+        match operation {
+            Operation::Div if right.0 == 0 => Err(FigureFault::ZeroDivisor),
+            _ => in_range(exact(operation, left, right)),
         }
-        in_range(exact(operation, left, right))
     }
 }
 
