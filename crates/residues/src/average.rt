@@ -6,7 +6,7 @@ use figure::FigureFault;
 use formula::Operation;
 
 // (a + b) div 2, where both steps have a figure.
-pub fn average<F: Figure>(a: F, b: F) -> Result<F, FigureFault>
+pub(crate) fn average<F: Figure>(a: F, b: F) -> Result<F, FigureFault>
     ensures { λ r. ⌜ r ≡ averageOf (F·Figure .number) (F·Figure .outcome) a b ⌝ }
 {
     let sum = F::operate(Operation::Add, a, b)?;

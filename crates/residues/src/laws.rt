@@ -12,7 +12,7 @@ use figure::FigureFault;
 use formula::Operation;
 
 // (a mul b) div b, which is a again unless b is zero.
-pub fn back_again(a: Residues, b: Residues) -> Result<Residues, FigureFault>
+pub(crate) fn back_again(a: Residues, b: Residues) -> Result<Residues, FigureFault>
     ensures meant { λ r. ⌜ r ≡ andThen (residueOutcome Mul a b) (λ product. residueOutcome Div product b) ⌝ }
     ensures undone { λ r. ⌜ (b .value ≢ 0 → r ≡ Ok a) ⌝ }
 {

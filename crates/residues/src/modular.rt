@@ -25,7 +25,7 @@ fn inverse(b: u32) -> u32
 
 impl Residues {
     // The residue of a natural number.
-    pub fn reduce(n: u32) -> Residues
+    pub(crate) fn reduce(n: u32) -> Residues
         ensures { λ r. ⌜ r ≡ residue n ⌝ }
     {
         Residues { value: n % 7 }
