@@ -1,5 +1,7 @@
 // Admits the table on each line of standard input: an input count, and then the words.
 // The work table has a place more than there are words, and holds 9 in every place before.
+#![tactic(auto)]
+
 use anyhow::Context;
 use formula::{Formula, admit};
 

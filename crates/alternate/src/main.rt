@@ -1,4 +1,6 @@
 // Prints what the picker `Alternate`, and the library's `Turn`, pick of some shown numbers.
+#![tactic(auto)]
+
 ghost use Rattle.picker.specs.Greedy.{Picks};
 
 mod second;

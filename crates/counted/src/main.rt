@@ -1,4 +1,6 @@
 // Ticks that count the operations that went into them: a kind of figure, and a program that prints some outcomes.
+#![tactic(auto)]
+
 ghost use Rattle.counted.specs.Meaning.{count_after, counted_number, counted_outcome};
 ghost use Rattle.formula.specs.declared.Operation.TheVariants.{Add, Mul};
 ghost use Rattle.std.specs.Prelude.{◌≡◌, Ok, Err};

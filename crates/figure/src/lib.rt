@@ -1,4 +1,6 @@
 // Kinds of figure by their meaning, ticks and bands.
+#![tactic(auto)]
+
 mod band;
 mod band_figure;
 mod ends;

@@ -1,4 +1,6 @@
 // The outcome on each line of standard input: an operation's code, and then two ticks or the ends of two bands.
+#![tactic(auto)]
+
 use anyhow::{Context, anyhow};
 use figure::{Bands, Figure, FigureFault, Ticks};
 use formula::Operation;

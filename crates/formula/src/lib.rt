@@ -1,4 +1,6 @@
 // Formulas as tables of words, and their admission.
+#![tactic(auto)]
+
 mod admission;
 mod admitted;
 mod methods;

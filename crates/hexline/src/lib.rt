@@ -1,4 +1,6 @@
 // A 32-bit word as a line of eight lowercase hexadecimal digits, and a text of such lines read into a table.
+#![tactic(auto)]
+
 mod line;
 mod table;
 

@@ -1,4 +1,6 @@
 // Lists a formula: each word with its shape and its binder count, and whether it is admitted.
+#![tactic(auto)]
+
 mod argument;
 mod report;
 mod spelling;

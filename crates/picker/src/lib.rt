@@ -1,4 +1,6 @@
 // The greedy rule, and pickers that keep it.
+#![tactic(auto)]
+
 mod greedy;
 mod oldest;
 mod picker;

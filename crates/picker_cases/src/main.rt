@@ -1,4 +1,6 @@
 // What a picker writes, for some examples, and then for each line of standard input: its name, q, the places of its list, and the numbers shown.
+#![tactic(auto)]
+
 mod examples;
 
 use anyhow::{Context, anyhow};

@@ -1,4 +1,6 @@
 // Residues, a kind of figure of its own, beside ticks and bands.
+#![tactic(auto)]
+
 mod average;
 mod laws;
 mod modular;
