@@ -25,7 +25,7 @@ loop-place-preserved c =
     let before = c.args.work.now in
     let work = c.loop-place.work in
     let place = c.loop-place.place in
-    let told = c.in-ok-count-word.ensures in
+    let told = c.in_ok-count_word.ensures in
     let good = good_more inputs words place c.loop-place.invariant.0 (ap is_some (sym told.answer)) in
     let counted = counted_more inputs words before work place good (omega arith) c.loop-place.invariant.1 in
     (good, subst (λ (work : List ℕ). Counted words (place + 1) before work) (sym told.count) counted)

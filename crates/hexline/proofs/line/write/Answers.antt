@@ -7,4 +7,4 @@ use Rattle.hexline.proofs.line.write.Goals as goal
 pub returns : goal.returns
 returns c =
     let small : c.args.word < 2 ^ 32 = search rules in
-    record { value = c.digits.ensures; reads-back = ap word_of c.digits.ensures ∙ word_back c.args.word small }
+    record { value = c.digits.ensures; reads_back = ap word_of c.digits.ensures ∙ word_back c.args.word small }

@@ -10,7 +10,7 @@ returns-then-not-had-turn c =
 
 pub loop-place-preserved : goal.loop-place-preserved
 loop-place-preserved c =
-    let more = prefix_len-drop_yes (had_turn c.args.last) c.args.numbers.now c.loop-place.place 0 c.loop-place-test.true (sym c.had-turn.ensures ∙ c.if-not-had-turn.false) in
+    let more = prefix_len-drop_yes (had_turn c.args.last) c.args.numbers.now c.loop-place.place 0 c.loop-place-test.true (sym c.had_turn.ensures ∙ c.if-not-had_turn.false) in
     omega (arith, more, c.loop-place.invariant)
 
 pub returns : goal.returns

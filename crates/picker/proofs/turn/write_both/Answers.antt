@@ -8,11 +8,11 @@ returns c =
     let list = c.args.list.now in
     let first = c.args.first.now in
     let second = c.args.second.now in
-    let both : Both first second c.args.count c.min-of-first.result c.min.result c.copy-from-slice.new.self c.copy-from-slice-2.new.self = record {
-      of_first = c.min-of-first.ensures;
+    let both : Both first second c.args.count c.min-of_first.result c.min.result c.copy_from_slice.new.self c.copy_from_slice-2.new.self = record {
+      of_first = c.min-of_first.ensures;
       of_second = c.min.ensures;
-      x_is = c.copy-from-slice.ensures.after;
-      y_is = c.copy-from-slice-2.ensures.after;
+      x_is = c.copy_from_slice.ensures.after;
+      y_is = c.copy_from_slice-2.ensures.after;
     } in
     record {
       written = both_written list first second _ _ _ _ _ both;
