@@ -2,6 +2,6 @@ use Rattle.std.proofs.Common.{rules}
 use Rattle.formula.specs.Words.{shape}
 use Rattle.formula.proofs.admitted.Formula.fresh.Goals as goal
 
-pub invariant-of-result : goal.invariant-of-result
+pub invariant_of-result : goal.invariant_of-result
 unfolding shape
-invariant-of-result c = search rules
+invariant_of-result c = search rules
