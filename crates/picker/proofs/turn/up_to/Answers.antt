@@ -3,9 +3,9 @@ use Rattle.std.proofs.lemmas.List.Sums.{prefix_len-drop_all, prefix_len-drop_no,
 use Rattle.picker.specs.Orders.{had_turn}
 use Rattle.picker.proofs.turn.up_to.Goals as goal
 
-pub returns-then-not-had-turn : goal.returns-then-not-had-turn
-returns-then-not-had-turn c =
-    let ends = prefix_len-drop_no (had_turn c.args.last) c.args.numbers.now c.loop-place.place 0 c.loop-place-test.true (sym c.had-turn.ensures ∙ c.if-not-had-turn.true) in
+pub returns-then-not-had_turn : goal.returns-then-not-had_turn
+returns-then-not-had_turn c =
+    let ends = prefix_len-drop_no (had_turn c.args.last) c.args.numbers.now c.loop-place.place 0 c.loop-place-test.true (sym c.had_turn.ensures ∙ c.if-not-had_turn.true) in
     record { count = omega (arith, ends, c.loop-place.invariant); within = omega arith }
 
 pub loop-place-preserved : goal.loop-place-preserved

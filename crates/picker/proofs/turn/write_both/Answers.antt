@@ -16,5 +16,5 @@ returns c =
     } in
     record {
       written = both_written list first second _ _ _ _ _ both;
-      last = c.last-pick.ensures ∙ ap (last_pick c.args.before) (both_taken list first second _ _ _ _ _ both);
+      last = c.last_pick.ensures ∙ ap (last_pick c.args.before) (both_taken list first second _ _ _ _ _ both);
     }
