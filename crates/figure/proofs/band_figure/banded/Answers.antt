@@ -8,6 +8,6 @@ pub returns : goal.returns
 returns c =
     let f : SFits w64 c.args.ends.low = search rules in
     let g : SFits w64 c.args.ends.high = search rules in
-    both_ranged c.args.ends _ _ _ c.in-order.ensures.band
-    (c.in-ok-in-range.ensures ∙ ap ranged (to_z-of_z w64 _ f))
-    (c.in-ok-in-range-2.ensures ∙ ap ranged (to_z-of_z w64 _ g))
+    both_ranged c.args.ends _ _ _ c.in_order.ensures.band
+    (c.in_ok-in_range.ensures ∙ ap ranged (to_z-of_z w64 _ f))
+    (c.in_ok-in_range-2.ensures ∙ ap ranged (to_z-of_z w64 _ g))

@@ -5,7 +5,7 @@ use Rattle.figure.proofs.ends.ends_of.Goals as goal
 
 pub returns-in-Add : goal.returns-in-Add
 returns-in-Add c =
-    let e : c.end-by-end.result ≡ ends_of c.args.operation c.args.left c.args.right = search rules in
+    let e : c.end_by_end.result ≡ ends_of c.args.operation c.args.left c.args.right = search rules in
     record { ends = e; ordered = in_order_as c.args.operation c.args.left c.args.right e }
 
 pub returns-in-Sub : goal.returns-in-Sub

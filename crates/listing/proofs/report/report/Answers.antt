@@ -4,9 +4,9 @@ use Rattle.listing.proofs.report.report.Goals as goal
 
 pub returns : goal.returns
 returns c =
-    let table = c.read-table-lines.new.table in
-    let lines = c.read-table-lines.result in
+    let table = c.read_table-lines.new.table in
+    let lines = c.read_table-lines.result in
     record {
-      reported = IfOk-weaker c.told.result _ _ (λ out h. (table, lines, c.read-table-lines.ensures.reads, h)) c.told.ensures;
-      enough = IfOk-weaker c.told.result _ _ (λ out h more long. (table, lines, c.read-table-lines.ensures.enough more (omega arith), h)) c.told.ensures;
+      reported = IfOk-weaker c.told.result _ _ (λ out h. (table, lines, c.read_table-lines.ensures.reads, h)) c.told.ensures;
+      enough = IfOk-weaker c.told.result _ _ (λ out h more long. (table, lines, c.read_table-lines.ensures.enough more (omega arith), h)) c.told.ensures;
     }

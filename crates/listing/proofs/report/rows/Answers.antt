@@ -9,8 +9,8 @@ loop-place-preserved c =
     let counts = c.args.counts.now in
     let place = c.loop-place.place in
     let count = c.copied.ensures ∙ found_count words counts place c.get.result c.requires c.get.ensures.lookup.0 c.get.ensures.lookup.1 in
-    let line = c.as-str.ensures.value ∙ c.in-ok-line.ensures in
-    c.in-ok-push-str.ensures.bytes
-    ∙ ap (λ front. front ++ c.as-str.result.now) c.loop-place.invariant
+    let line = c.as_str.ensures.value ∙ c.in_ok-line.ensures in
+    c.in_ok-push_str.ensures.bytes
+    ∙ ap (λ front. front ++ c.as_str.result.now) c.loop-place.invariant
     ∙ ap (λ back. rows_text words (length counts) place ++ back) line
     ∙ rows_more words (length counts) place c.copied.result count

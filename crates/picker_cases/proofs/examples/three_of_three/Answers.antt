@@ -16,6 +16,6 @@ asked = record { rising = rising; some = lit≤ tt; least = lit≤ tt; most = li
 
 pub returns : goal.returns
 returns g c =
-    let list = c.pick-greedily.new.list in
-    let known = c.pick-greedily.ensures.picks asked (lit≤ tt) in
+    let list = c.pick_greedily.new.list in
+    let known = c.pick_greedily.ensures.picks asked (lit≤ tt) in
     subst (AllPicked three) (take_all 3 list (omega arith)) (known.everyone (lit≤ tt))
