@@ -4,7 +4,7 @@ use Rattle.std.proofs.lemmas.List.Edits.{get_or-remove_above, get_or-remove_belo
 use Rattle.std.proofs.ByRecursion.{All-from_get_or, All-get_or}
 use Rattle.std.proofs.lemmas.List.{get_or_default}
 use Rattle.std.proofs.lemmas.Bool.{cases_eq, cases_order}
-use Rattle.std.specs.List.{remove, ContainsAt as Has, AllByRecursion as All}
+use Rattle.std.specs.List.{remove, ContainsAt as Has, AllByRecursion}
 use Rattle.picker.specs.Greedy.{AllPicked, DuplicateFree, Greedy}
 
 has_or_not : (xs : List ℕ) (x : ℕ) → Has xs x ⊎ (Has xs x → ⊥)
@@ -51,7 +51,7 @@ DuplicateFree-cons x xs new free (suc i) zero lt h same = omega arith
 DuplicateFree-cons x xs new free (suc i) (suc j) lt h same = free i j (le_of_suc-le-suc lt) (le_of_suc-le-suc h) same
 
 -- no more distinct numbers can be chosen from a list than it has places
-pub no_more_than : (picks active : List ℕ) → DuplicateFree picks → All (Has active) picks → length picks ≤ length active
+pub no_more_than : (picks active : List ℕ) → DuplicateFree picks → AllByRecursion (Has active) picks → length picks ≤ length active
 no_more_than [] active free members = zero-le
 no_more_than (pick ∷ picks) active free members =
     omega (arith, length-remove active place within, no_more_than picks (remove active place) (DuplicateFree_tail pick picks free) others)
@@ -62,7 +62,7 @@ no_more_than (pick ∷ picks) active free members =
     within : place < length active
     within = members.0.1
 
-    others : All (Has (remove active place)) picks
+    others : AllByRecursion (Has (remove active place)) picks
     others = All-from_get_or (Has (remove active place)) picks 0 (λ i h.
         has_removed active place (get_or picks i 0) within (λ same. free 0 (suc i) (omega arith) (suc-le-suc h) (sym (members.0.2 0) ∙ same)) (All-get_or (Has active) picks i 0 h members.1))
 
