@@ -52,7 +52,7 @@ fn refusals_leave_the_formula(rt: HostRuntime) {
         Err(Refusal::NotClosed(1))
     );
     assert_eq!(rt; work, [0, 1]);
-    assert_eq!(rt; formula.words(), &[7]);
+    assert_eq!(rt; formula.words(), [7].as_slice());
 }
 
 #[test]
@@ -62,5 +62,5 @@ fn eleven_words(rt: HostRuntime) {
     assert_eq!(rt; admit(&DOUBLED, 3, &mut work, &mut formula), Ok(()));
     assert_eq!(rt; work, [0, 1, 1, 1, 0, 0, 0, 0, 0, 0, 0, 9]);
     assert_eq!(rt; formula.inputs(), 3);
-    assert_eq!(rt; formula.words(), &DOUBLED);
+    assert_eq!(rt; formula.words(), DOUBLED.as_slice());
 }
