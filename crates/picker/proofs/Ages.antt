@@ -8,7 +8,7 @@ use Rattle.std.specs.List.Sorted.{IsStrictlyIncreasing}
 use Rattle.std.specs.List.{ContainsAt as Has, prefix_len}
 use Rattle.picker.specs.Greedy.{share}
 use Rattle.picker.specs.Orders.{FirstBy, Older, Sooner, Younger, behind, had_turn, highest, in_turn, lowest, round_from}
-use Rattle.picker.specs.OrdersLemmas.{behind_within, cases_place, slice_index-turned, length-turned, turned}
+use Rattle.picker.specs.GreedyChoices.{behind_within, cases_place, slice_index-turned, length-turned, turned}
 
 -- a list in an order, from which the first so many are taken
 module _ (Before : ℕ → ℕ → Type 0) (active order : List ℕ)

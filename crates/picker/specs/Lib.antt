@@ -1,4 +1,4 @@
 pub mod Greedy
 pub mod Orders
-pub mod OrdersLemmas
+pub mod GreedyChoices
 pub mod Places

@@ -2,7 +2,7 @@
 ghost use Rattle.std.specs.Prelude.{◌≡◌, min, length};
 ghost use Rattle.picker.specs.Greedy.{overlaid};
 ghost use Rattle.picker.specs.Orders.{FirstBy, Older, lowest};
-ghost use Rattle.picker.specs.OrdersLemmas.{lowest_greedy};
+ghost use Rattle.picker.specs.GreedyChoices.{lowest_greedy};
 
 use crate::picker::Picker;
 

@@ -3,7 +3,7 @@ ghost use Rattle.std.specs.Prelude.{◌≡◌, ◌≤◌, min, ◌++◌, length,
 ghost use Rattle.std.specs.List.{prefix_len};
 ghost use Rattle.picker.specs.Greedy.{overlaid};
 ghost use Rattle.picker.specs.Orders.{FirstBy, Sooner, behind, had_turn, in_turn, last_pick};
-ghost use Rattle.picker.specs.OrdersLemmas.{in_turn_greedy};
+ghost use Rattle.picker.specs.GreedyChoices.{in_turn_greedy};
 
 use crate::picker::Picker;
 

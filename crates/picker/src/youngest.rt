@@ -2,7 +2,7 @@
 ghost use Rattle.std.specs.Prelude.{◌≡◌, min, length};
 ghost use Rattle.picker.specs.Greedy.{overlaid};
 ghost use Rattle.picker.specs.Orders.{FirstBy, Younger, highest};
-ghost use Rattle.picker.specs.OrdersLemmas.{highest_greedy};
+ghost use Rattle.picker.specs.GreedyChoices.{highest_greedy};
 
 use crate::picker::Picker;
 

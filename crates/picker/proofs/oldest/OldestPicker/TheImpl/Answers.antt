@@ -1,7 +1,7 @@
 use Rattle.std.proofs.Common.{ℕ, refl}
 use Rattle.picker.specs.Orders.{lowest}
 use Rattle.picker.proofs.Ages.{lowest_first}
-use Rattle.picker.specs.OrdersLemmas.{length-lowest}
+use Rattle.picker.specs.GreedyChoices.{length-lowest}
 use Rattle.picker.proofs.Writing.{picks_from_overlaid}
 use Rattle.picker.proofs.oldest.OldestPicker.TheImpl.Goals as goal
 

@@ -1,7 +1,7 @@
 use Rattle.std.proofs.Common.{ℕ, refl, ap, ◌∙◌}
 use Rattle.picker.specs.Orders.{in_turn, last_pick}
 use Rattle.picker.proofs.Ages.{in_turn_first}
-use Rattle.picker.specs.OrdersLemmas.{length-in_turn}
+use Rattle.picker.specs.GreedyChoices.{length-in_turn}
 use Rattle.picker.proofs.Writing.{picks_from_overlaid}
 use Rattle.picker.proofs.turn.TurnPicker.TheImpl.Goals as goal
 

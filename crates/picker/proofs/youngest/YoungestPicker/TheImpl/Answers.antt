@@ -1,7 +1,7 @@
 use Rattle.std.proofs.Common.{ℕ, refl}
 use Rattle.picker.specs.Orders.{highest}
 use Rattle.picker.proofs.Ages.{highest_first}
-use Rattle.picker.specs.OrdersLemmas.{length-highest}
+use Rattle.picker.specs.GreedyChoices.{length-highest}
 use Rattle.picker.proofs.Writing.{picks_from_overlaid}
 use Rattle.picker.proofs.youngest.YoungestPicker.TheImpl.Goals as goal
 
