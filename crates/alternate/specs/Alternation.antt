@@ -1,12 +1,11 @@
 -- Every second number first, and then those that were passed over: where each pick stands, and that the choice is greedy. Assumes nothing.
-use Rattle.std.specs.Prelude.{◌≡◌, ℕ, zero, suc, ◌+◌, ◌-◌, ◌*◌, ◌/◌, ◌<◌, ◌≤◌, ◌⊎◌, List, [], ◌∷◌, length, take, drop, set, slice_index, slice_index_or, slice_set, refl}
+use Rattle.std.specs.Prelude.{◌≡◌, ℕ, zero, suc, ◌+◌, ◌-◌, ◌*◌, ◌/◌, ◌<◌, ◌≤◌, ◌⊎◌, List, [], ◌∷◌, length, drop, slice_index, refl}
 use Rattle.std.proofs.Common.{inl, inr, ⊎_elim, sym, ap, ◌∙◌, arith}
 use Rattle.std.proofs.lemmas.List.{get_or_append_left, get_or-append_right, get_or-drop, get_or-take, length-append, length-drop, length-take}
 use Rattle.std.proofs.lemmas.Bool.{cases_lt, cond-false, cond-true, le-ltb, lt-ltb}
 use Rattle.std.specs.List.Sorted.{IsStrictlyIncreasing}
-use Rattle.picker.specs.Greedy.{Greedy, overlaid, share}
+use Rattle.picker.specs.Greedy.{Greedy, share}
 use Rattle.picker.specs.Places.{greedy_by_places}
-use Rattle.picker.proofs.Writing.{overlaid_more}
 use Rattle.alternate.specs.Meaning.{alternate, evens, odds, order, place_of}
 
 length-evens : (xs : List ℕ) → length (evens xs) ≡ length xs - length xs / 2
@@ -34,10 +33,10 @@ cases_place n k =
     (λ (ge : n - n / 2 ≤ k). inr (ge, cond-false _ _ _ (le-ltb _ _ ge)))
     (cases_lt k (n - n / 2))
 
-length-order : (xs : List ℕ) → length (order xs) ≡ length xs
+pub length-order : (xs : List ℕ) → length (order xs) ≡ length xs
 length-order xs = omega (arith, length-append (evens xs) (odds xs), length-evens xs, length-evens (drop 1 xs), length-drop 1 xs)
 
-slice_index-order : (xs : List ℕ) (k : ℕ) → slice_index (order xs) k ≡ slice_index xs (place_of (length xs) k)
+pub slice_index-order : (xs : List ℕ) (k : ℕ) → slice_index (order xs) k ≡ slice_index xs (place_of (length xs) k)
 slice_index-order xs k = ⊎_elim even odd (cases_place (length xs) k)
   where
     even : Even (length xs) k → slice_index (order xs) k ≡ slice_index xs (place_of (length xs) k)
@@ -61,9 +60,3 @@ alternate_greedy q shown picks rising is =
       apart = λ i j lt h. omega (arith, cases i, cases j);
     } in
     rw is at
-
--- one pick more: the list was `list` at first, `written` before this pick, and is `written'` now
-pub written_more : (shown list written written' : List ℕ) (k : ℕ) → k < length shown → k < length list → written ≡ overlaid (take k (order shown)) list → written' ≡ slice_set written k (slice_index shown (place_of (length shown) k)) → written' ≡ overlaid (take (k + 1) (order shown)) list
-written_more shown list written written' k within room was is =
-    let pick = slice_index_or shown (place_of (length shown) k) 0 in
-    is ∙ ap (λ (xs : List ℕ). set xs k pick) was ∙ overlaid_more (order shown) list k pick (omega (arith, length-order shown)) room (sym (slice_index-order shown k))

@@ -11,7 +11,7 @@ pub trait Figure: Copy {
     // The kind's own number.
     const CODE: u32;
 
-    // That number in contracts, which cannot name the constant of a kind that is still open.
+    // That number, by the name that contracts use.
     ghost kind: { ℕ };
 
     // The figure of a number.

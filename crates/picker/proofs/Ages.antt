@@ -66,18 +66,18 @@ module _ (shown : List ℕ) (up : IsStrictlyIncreasing shown) where
   pub highest_first : (q : ℕ) → FirstBy Younger shown (highest q shown)
   highest_first q = subst (FirstBy Younger shown) (highest_is q) (first_taken Younger shown (reverse shown) falling Has-reverse (share q shown))
 
-leading_passes : (p : ℕ → Bool) (xs : List ℕ) (k : ℕ) → k < prefix_len p xs → p (get_or xs k 0) ≡ true
-leading_passes p [] k h = absurd (omega arith)
-leading_passes p (x ∷ xs) zero h =
+prefix_passes : (p : ℕ → Bool) (xs : List ℕ) (k : ℕ) → k < prefix_len p xs → p (get_or xs k 0) ≡ true
+prefix_passes p [] k h = absurd (omega arith)
+prefix_passes p (x ∷ xs) zero h =
     ⊎_elim (λ (yes' : p x ≡ true). yes') (λ (no' : p x ≡ false). absurd (omega (arith, h, cond-false (p x) (1 + prefix_len p xs) 0 no'))) (cases_Bool (p x))
-leading_passes p (x ∷ xs) (suc k) h = leading_passes p xs k (⊎_elim
+prefix_passes p (x ∷ xs) (suc k) h = prefix_passes p xs k (⊎_elim
     (λ (yes' : p x ≡ true). omega (arith, h, cond-true (p x) (1 + prefix_len p xs) 0 yes'))
     (λ (no' : p x ≡ false). absurd (omega (arith, h, cond-false (p x) (1 + prefix_len p xs) 0 no')))
     (cases_Bool (p x)))
 
-leading_stops : (p : ℕ → Bool) (xs : List ℕ) → prefix_len p xs < length xs → p (get_or xs (prefix_len p xs) 0) ≡ false
-leading_stops p [] h = absurd (omega arith)
-leading_stops p (x ∷ xs) h = ⊎_elim (more (leading_stops p xs)) here (cases_Bool (p x))
+prefix_stops : (p : ℕ → Bool) (xs : List ℕ) → prefix_len p xs < length xs → p (get_or xs (prefix_len p xs) 0) ≡ false
+prefix_stops p [] h = absurd (omega arith)
+prefix_stops p (x ∷ xs) h = ⊎_elim (more (prefix_stops p xs)) here (cases_Bool (p x))
   where
     more : (prefix_len p xs < length xs → p (get_or xs (prefix_len p xs) 0) ≡ false) → p x ≡ true → p (get_or (x ∷ xs) (prefix_len p (x ∷ xs)) 0) ≡ false
     more below e =
@@ -109,11 +109,11 @@ turned_places n start i j i' j' few lt h (inr a) (inr b) = inr (omega arith, inr
 
 module _ (last : ℕ) (shown : List ℕ) (up : IsStrictlyIncreasing shown) where
   passed_by : (k : ℕ) → k < behind (Some last) shown → get_or shown k 0 ≤ last
-  passed_by k h = leb-true _ _ (leading_passes (had_turn last) shown k h)
+  passed_by k h = leb-true _ _ (prefix_passes (had_turn last) shown k h)
 
   ahead : (k : ℕ) → behind (Some last) shown ≤ k → k < length shown → last < get_or shown k 0
   ahead k ge h =
-      let begins = leb-false _ _ (leading_stops (had_turn last) shown (omega arith)) in
+      let begins = leb-false _ _ (prefix_stops (had_turn last) shown (omega arith)) in
       ⊎_elim (λ (lt : behind (Some last) shown < k). omega (arith, begins, above shown up (behind (Some last) shown) k lt h))
       (λ (le : k ≤ behind (Some last) shown). let same : behind (Some last) shown ≡ k = omega arith in subst (λ (k : ℕ). last < get_or shown k 0) same begins)
       (cases_lt (behind (Some last) shown) k)

@@ -9,8 +9,8 @@ use Rattle.std.specs.List.{ContainsAt as Has}
 use Rattle.picker.specs.Greedy.{Greedy, share}
 
 -- numbers that rise differ at different places
-pub climbs_apart : (xs : List ℕ) → IsStrictlyIncreasing xs → (i j : ℕ) → i < length xs → j < length xs → i ≢ j → slice_index xs i ≢ slice_index xs j
-climbs_apart xs up i j hi hj ne same =
+pub rising_apart : (xs : List ℕ) → IsStrictlyIncreasing xs → (i j : ℕ) → i < length xs → j < length xs → i ≢ j → slice_index xs i ≢ slice_index xs j
+rising_apart xs up i j hi hj ne same =
     let sorted = sorted_from_strictly_increasing xs up in
     ⊎_elim (λ (lt : i < j). omega (arith, below_from_sorted xs i j 0 sorted lt hj, same))
     (λ (ge : j ≤ i). omega (arith, below_from_sorted xs j i 0 sorted (omega arith) hi, same))
@@ -28,5 +28,5 @@ greedy_by_places q shown picks place up count at = record {
   members = All-from_get_or (Has shown) picks 0 (λ k h. subst (Has shown) (sym (at.stands k h)) (has_get_or shown (place k) 0 (at.within k h)));
   distinct = λ i j lt h same.
       let hi : i < length picks = omega arith in
-      climbs_apart shown up (place i) (place j) (at.within i hi) (at.within j h) (at.apart i j lt h) (sym (at.stands i hi) ∙ same ∙ at.stands j h);
+      rising_apart shown up (place i) (place j) (at.within i hi) (at.within j h) (at.apart i j lt h) (sym (at.stands i hi) ∙ same ∙ at.stands j h);
 }

@@ -1,4 +1,4 @@
--- The law of the trait, and its contract of `pick`.
+-- The contract of `pick` implies the trait's.
 use Rattle.std.proofs.Common.{ℕ, refl}
 use Rattle.picker.proofs.Writing.{picks_from_overlaid}
 use Rattle.alternate.specs.Meaning.{alternate}
