@@ -1,20 +1,11 @@
 -- Which tables of words are formulas, and what admission answers and writes. Assumes nothing.
-use Rattle.std.specs.Prelude.{◌≡◌, ℕ, ◌<◌, ◌≤◌, Bool, true, false, cond, ◌&&◌, List, [], ◌∷◌, length, is_some, Some, None, Ok, Err, Option, Result, nat_lt, slice_index}
+use Rattle.std.specs.Prelude.{◌≡◌, ℕ, ◌<◌, ◌≤◌, Bool, true, false, if◌then◌else◌, ◌&&◌, List, [], ◌∷◌, length, is_some, Some, None, Ok, Err, Option, Result, nat_lt, slice_index}
 use Rattle.formula.specs.declared.refusal.Refusal.{Refusal}
 use Rattle.formula.specs.declared.refusal.Refusal.TheVariants.{WordCount, ShortTable, BadLeaf, PlaceNotBelow, NoSuchInput, NotClosed}
 use Rattle.formula.specs.declared.word.Word.{Word}
-use Rattle.formula.specs.declared.word.Word.TheVariants.{Number, Variable, Operation as Op, Input, Abstraction, Application, NotAllowed}
-use Rattle.formula.specs.Binders.{Closed, binders, binders_of, named_places, root}
+use Rattle.formula.specs.declared.word.Word.TheVariants.{Number, Variable, Operation as Op, Input, Abstraction, Application}
+use Rattle.formula.specs.Binders.{Closed, binders, named_places, root, shape_binders}
 use Rattle.formula.specs.Words.{shape_at}
-
-abbrev pub allowed : Word → Bool
-allowed NotAllowed = false
-allowed (Number n) = true
-allowed (Variable i) = true
-allowed (Op op) = true
-allowed (Input i) = true
-allowed (Abstraction body) = true
-allowed (Application function argument) = true
 
 abbrev pub all_below : ℕ → List ℕ → Bool
 all_below place [] = true
@@ -27,21 +18,23 @@ input_known inputs (Variable i) = true
 input_known inputs (Op op) = true
 input_known inputs (Abstraction body) = true
 input_known inputs (Application function argument) = true
-input_known inputs NotAllowed = true
 
 -- the first check that a word at a place fails, if any
 abbrev pub word_refusal : ℕ → Word → ℕ → Option Refusal
 word_refusal inputs word place =
-    cond (allowed word)
-    (cond (all_below place (named_places word)) (cond (input_known inputs word) None (Some (NoSuchInput place))) (Some (PlaceNotBelow place)))
-    (Some (BadLeaf place))
+    if all_below place (named_places word) then (if input_known inputs word then None else Some (NoSuchInput place)) else Some (PlaceNotBelow place)
+
+-- a place that has no word fails before any of these
+abbrev pub shape_refusal : ℕ → Option Word → ℕ → Option Refusal
+shape_refusal inputs None place = Some (BadLeaf place)
+shape_refusal inputs (Some word) place = word_refusal inputs word place
 
 abbrev pub Sized : List ℕ → Type 0
 Sized words = (0 < length words) × (length words ≤ 32768)
 
 -- the words before a place pass their checks
 abbrev pub GoodBefore : ℕ → List ℕ → ℕ → Type 0
-GoodBefore inputs words end = (place : ℕ) → place < end → is_some (word_refusal inputs (shape_at words place) place) ≡ false
+GoodBefore inputs words end = (place : ℕ) → place < end → is_some (shape_refusal inputs (shape_at words place) place) ≡ false
 
 -- the words are a formula of so many inputs
 abbrev pub Admitted : ℕ → List ℕ → Type 0
@@ -51,7 +44,7 @@ Admitted inputs words = Sized words × GoodBefore inputs words (length words) ×
 pub record FirstBad (inputs : ℕ) (words : List ℕ) (place : ℕ) (why : Refusal) : Type 0 where
   pub within : place < length words
   pub before : GoodBefore inputs words place
-  pub here : word_refusal inputs (shape_at words place) place ≡ Some why
+  pub here : shape_refusal inputs (shape_at words place) place ≡ Some why
 
 -- when each refusal comes, for so many inputs and a work table of so many places
 abbrev pub Refused : ℕ → List ℕ → ℕ → Refusal → Type 0
@@ -81,5 +74,5 @@ counted_by words (Err (NotClosed place)) = length words
 -- The counts of the first so many words are written, each as its word's from those of the places that it names, and nothing else.
 pub record Counted (words : List ℕ) (many : ℕ) (before after : List ℕ) : Type 0 where
   pub written : (place : ℕ) → place < many → slice_index after place ≡ binders words place
-  pub named : (place : ℕ) → place < many → slice_index after place ≡ binders_of (shape_at words place) (λ p. slice_index after p)
+  pub named : (place : ℕ) → place < many → slice_index after place ≡ shape_binders (shape_at words place) (λ p. slice_index after p)
   pub rest : (place : ℕ) → many ≤ place → slice_index after place ≡ slice_index before place

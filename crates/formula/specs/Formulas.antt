@@ -20,7 +20,7 @@ Holds words inputs formula = (words_of formula ≡ words) × (inputs_of formula 
 abbrev pub WordAt : Formula → ℕ → Option Word → Type 0
 WordAt formula place None = length (words_of formula) ≤ place
 WordAt formula place (Some word) =
-    (place < length (words_of formula)) × (word ≡ shape_at (words_of formula) place) × (is_some (word_refusal (inputs_of formula) word place) ≡ false)
+    (place < length (words_of formula)) × (shape_at (words_of formula) place ≡ Some word) × (is_some (word_refusal (inputs_of formula) word place) ≡ false)
 
 -- admission fills the formula, and a refusal leaves it as it was
 abbrev pub Filled : List ℕ → ℕ → Formula → Formula → Result (Unit {0}) Refusal → Type 0

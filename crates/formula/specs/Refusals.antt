@@ -1,5 +1,5 @@
--- The refusals of admission, their numbers and their places. Assumes nothing.
-use Rattle.std.specs.Prelude.{ℕ}
+-- The refusals of admission, their numbers and their places, and how they are told. Assumes nothing.
+use Rattle.std.specs.Prelude.{ℕ, List, ◌++◌, codes, decimal}
 use Rattle.formula.specs.declared.refusal.Refusal.{Refusal}
 use Rattle.formula.specs.declared.refusal.Refusal.TheVariants.{WordCount, ShortTable, BadLeaf, PlaceNotBelow, NoSuchInput, NotClosed}
 
@@ -19,3 +19,6 @@ place_of (BadLeaf place) = place
 place_of (PlaceNotBelow place) = place
 place_of (NoSuchInput place) = place
 place_of (NotClosed place) = place
+
+abbrev pub refusal_text : Refusal → List ℕ
+refusal_text why = codes "refused " ++ (decimal (number_of why) ++ (codes " " ++ decimal (place_of why)))

@@ -1,8 +1,8 @@
 // Admission: a table of words is checked from place 0 upwards, and its binder counts are written.
 ghost use Rattle.std.specs.Prelude.{◌≡◌, ◌^◌, ◌<◌, ◌≤◌, true, length, is_ok, if◌then◌else◌, MatchResult, slice_index, slice_set};
 ghost use Rattle.std.specs.Result.{result_err};
-ghost use Rattle.formula.specs.Admission.{Answers, Counted, GoodBefore, Refused, Sized, all_below, counted_by, word_refusal};
-ghost use Rattle.formula.specs.Binders.{binders_of, named_places};
+ghost use Rattle.formula.specs.Admission.{Answers, Counted, GoodBefore, Refused, Sized, all_below, counted_by, shape_refusal, word_refusal};
+ghost use Rattle.formula.specs.Binders.{binders_of, named_places, shape_binders};
 ghost use Rattle.formula.specs.Formulas.{Filled};
 ghost use Rattle.formula.specs.Words.{index_of, shape};
 
@@ -17,7 +17,6 @@ fn check(word: Word, place: u32, inputs: u32) -> Result<(), Refusal>
     ensures { result_err result ≡ word_refusal inputs word place }
 {
     match word {
-        Word::NotAllowed => Err(Refusal::BadLeaf(place)),
         Word::Abstraction { body } if body >= place => Err(Refusal::PlaceNotBelow(place)),
         Word::Application { function, argument } if function >= place || argument >= place => {
             Err(Refusal::PlaceNotBelow(place))
@@ -47,11 +46,14 @@ fn binders(word: Word, counts: &[u32]) -> u32
 fn count_word(word: u32, place: usize, inputs: u32, work: &mut [u32]) -> Result<(), Refusal>
     requires few { place < 32768 }
     requires room { place < length work.old }
-    ensures answer { result_err result ≡ word_refusal inputs (shape word) place }
-    ensures count { work.new ≡ (if is_ok result then slice_set work.old place (binders_of (shape word) (λ p. slice_index work.old p)) else work.old) }
+    ensures answer { result_err result ≡ shape_refusal inputs (shape word) place }
+    ensures count { work.new ≡ (if is_ok result then slice_set work.old place (shape_binders (shape word) (λ p. slice_index work.old p)) else work.old) }
 {
-    let word = Word::decode(word);
-    check(word, place as u32, inputs)?;
+    let at = place as u32;
+    let Ok(word) = Word::try_from(word) else {
+        return Err(Refusal::BadLeaf(at));
+    };
+    check(word, at, inputs)?;
     work[place] = binders(word, work);
     Ok(())
 }

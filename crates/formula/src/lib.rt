@@ -3,16 +3,15 @@
 
 mod admission;
 mod admitted;
-mod methods;
 mod operation;
 mod refusal;
 mod word;
 
 pub use admission::admit;
 pub use admitted::Formula;
-pub use operation::Operation;
+pub use operation::{Operation, UnknownOperation};
 pub use refusal::Refusal;
-pub use word::Word;
+pub use word::{NotAllowed, Word};
 
 #[cfg(test)]
 mod tests;

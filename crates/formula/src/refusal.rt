@@ -1,6 +1,9 @@
 // Why a table of words is not admitted.
-ghost use Rattle.std.specs.Prelude.{◌≡◌};
-ghost use Rattle.formula.specs.Refusals.{number_of, place_of};
+ghost use Rattle.std.specs.Prelude.{◌≡◌, Some};
+ghost use Rattle.formula.specs.Refusals.{number_of, place_of, refusal_text};
+
+use std::error::Error;
+use std::fmt;
 
 #[derive(Clone, Copy, PartialEq, Eq, Debug)]
 pub enum Refusal {
@@ -19,6 +22,7 @@ pub enum Refusal {
 }
 
 impl Refusal {
+    // A method and no conversion, since a refusal has two numbers.
     pub fn number(self) -> u32
         ensures { result ≡ number_of self }
     {
@@ -45,3 +49,13 @@ impl Refusal {
         }
     }
 }
+
+impl fmt::Display for Refusal {
+    ghost output = { λ refusal. Some (refusal_text refusal) };
+
+    fn fmt<W: fmt::Write>(&self, f: &mut fmt::Formatter<W>) -> fmt::Result {
+        write!(f, "refused {} {}", self.number(), self.place())
+    }
+}
+
+impl Error for Refusal {}

@@ -1,8 +1,11 @@
 // The shapes of a 32-bit word.
-ghost use Rattle.std.specs.Prelude.{◌≡◌, ◌^◌, ◌<◌};
-ghost use Rattle.formula.specs.Words.{bit_field, index_of, kind_shape, leaf_shape, shape, twos_complement};
+ghost use Rattle.std.specs.Prelude.{◌≡◌, ◌^◌, ◌<◌, Some, Ok, Err};
+ghost use Rattle.formula.specs.Words.{Decoded, allowed, bit_field, kind_shape, leaf_shape, shape, twos_complement};
+ghost use Rattle.formula.specs.Spelling.{in_words, not_allowed_text};
 
 use crate::operation::Operation;
+use std::error::Error;
+use std::fmt;
 
 #[derive(Clone, Copy)]
 pub enum Word {
@@ -12,33 +15,50 @@ pub enum Word {
     Input(u32),
     Abstraction { body: u32 },
     Application { function: u32, argument: u32 },
-    // A leaf with tell 3, or an operation above 5.
-    NotAllowed,
 }
 
-impl Word {
-    pub fn decode(word: u32) -> Word
-        ensures shape { result ≡ shape word }
-        ensures index { index_of result < 2 ^ 28 }
-    {
+// A word that is none: a leaf with tell 3, or an operation above 5.
+#[derive(Clone, Copy, PartialEq, Eq, Debug)]
+pub struct NotAllowed;
+
+impl TryFrom<u32> for Word {
+    type Error = NotAllowed;
+
+    ghost try_from_gives = { Decoded };
+
+    fn try_from(word: u32) -> Result<Word, NotAllowed> {
         of_kind(bits(word, 30, 2), word)
     }
 }
 
-fn of_kind(kind: u32, word: u32) -> Word
-    ensures shape { result ≡ kind_shape kind word }
-    ensures index { index_of result < 2 ^ 28 }
+// The kind and the tell are two bits each, so what is no other is the last.
+fn of_kind(kind: u32, word: u32) -> Result<Word, NotAllowed>
+    ensures { result ≡ allowed (kind_shape kind word) }
 {
     match kind {
-        0 => Word::Number(signed(bits(word, 0, 30))),
+        0 => Ok(Word::Number(signed(bits(word, 0, 30)))),
         1 => leaf(bits(word, 28, 2), bits(word, 0, 28)),
-        2 => Word::Abstraction {
+        2 => Ok(Word::Abstraction {
             body: bits(word, 0, 30),
-        },
-        _ => Word::Application {
+        }),
+        _ => Ok(Word::Application {
             function: bits(word, 15, 15),
             argument: bits(word, 0, 15),
-        },
+        }),
+    }
+}
+
+fn leaf(tell: u32, index: u32) -> Result<Word, NotAllowed>
+    ensures { result ≡ allowed (leaf_shape tell index) }
+{
+    match tell {
+        0 => Ok(Word::Variable(index)),
+        1 => {
+            let operation = Operation::try_from(index).map_err(|_| NotAllowed)?;
+            Ok(Word::Operation(operation))
+        }
+        2 => Ok(Word::Input(index)),
+        _ => Err(NotAllowed),
     }
 }
 
@@ -64,18 +84,29 @@ fn signed(bits: u32) -> i32
     }
 }
 
-fn leaf(tell: u32, index: u32) -> Word
-    requires { index < 2 ^ 28 }
-    ensures shape { result ≡ leaf_shape tell index }
-    ensures index { index_of result < 2 ^ 28 }
-{
-    match tell {
-        0 => Word::Variable(index),
-        1 => match Operation::from_code(index) {
-            Some(operation) => Word::Operation(operation),
-            None => Word::NotAllowed,
-        },
-        2 => Word::Input(index),
-        _ => Word::NotAllowed,
+impl fmt::Display for Word {
+    ghost output = { λ word. Some (in_words word) };
+
+    fn fmt<W: fmt::Write>(&self, f: &mut fmt::Formatter<W>) -> fmt::Result {
+        match self {
+            Word::Number(n) => write!(f, "number {n}"),
+            Word::Variable(index) => write!(f, "variable {index}"),
+            Word::Operation(operation) => write!(f, "operation {operation}"),
+            Word::Input(index) => write!(f, "input {index}"),
+            Word::Abstraction { body } => write!(f, "abstraction of {body}"),
+            Word::Application { function, argument } => {
+                write!(f, "application of {function} to {argument}")
+            }
+        }
     }
 }
+
+impl fmt::Display for NotAllowed {
+    ghost output = { λ _. Some not_allowed_text };
+
+    fn fmt<W: fmt::Write>(&self, f: &mut fmt::Formatter<W>) -> fmt::Result {
+        f.write_str("not allowed")
+    }
+}
+
+impl Error for NotAllowed {}
