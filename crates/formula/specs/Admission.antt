@@ -37,8 +37,10 @@ abbrev pub GoodBefore : ℕ → List ℕ → ℕ → Type 0
 GoodBefore inputs words end = (place : ℕ) → place < end → is_some (shape_refusal inputs (shape_at words place) place) ≡ false
 
 -- the words are a formula of so many inputs
-abbrev pub Admitted : ℕ → List ℕ → Type 0
-Admitted inputs words = Sized words × GoodBefore inputs words (length words) × Closed words
+pub record Admitted (inputs : ℕ) (words : List ℕ) : Type 0 where
+  pub sized : Sized words
+  pub good : GoodBefore inputs words (length words)
+  pub closed : Closed words
 
 -- the word at a place is the first that fails a check
 pub record FirstBad (inputs : ℕ) (words : List ℕ) (place : ℕ) (why : Refusal) : Type 0 where

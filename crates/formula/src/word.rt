@@ -7,7 +7,7 @@ use crate::operation::Operation;
 use std::error::Error;
 use std::fmt;
 
-#[derive(Clone, Copy)]
+#[derive(Clone, Copy, PartialEq, Eq, Debug)]
 pub enum Word {
     Number(i32),
     Variable(u32),
