@@ -15,6 +15,7 @@ impl<'a> Formula<'a> {
     ghost use Rattle.formula.specs.Formulas.{Holds, WordAt, inputs_of, words_of};
 
     // The number 7 with no inputs, which a host's formula holds before anything is admitted.
+    #[tactic(auto, unfolding(crate::specs::Words::shape))]
     pub fn fresh() -> Formula<'a>
         ensures { Holds (7 ∷ []) 0 result }
     {

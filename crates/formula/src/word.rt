@@ -26,6 +26,7 @@ impl TryFrom<u32> for Word {
 
     ghost try_from_gives = { Decoded };
 
+    #[tactic(auto, using(crate::proofs::Shapes::shape_decoded), unfolding(crate::specs::Words::shape))]
     fn try_from(word: u32) -> Result<Word, NotAllowed> {
         of_kind(bits(word, 30, 2), word)
     }
