@@ -1,5 +1,5 @@
 -- The index of a leaf has 28 bits. Assumes nothing.
-use Rattle.std.proofs.Common.{◌≡◌, ℕ, ◌/◌, ◌^◌, ◌<◌, Bool, true, false, if◌then◌else◌, IfOk, ◌==◌, Some, None, Option, refl, arith}
+use Rattle.std.proofs.Common.{ℕ, ◌/◌, ◌^◌, ◌<◌, Bool, true, false, if◌then◌else◌, IfOk, ◌==◌, Some, None, Option, refl, arith}
 use Rattle.std.proofs.lemmas.Nat.{mod_below, pow_pos}
 use Rattle.formula.specs.declared.operation.Operation.{Operation}
 use Rattle.formula.specs.declared.word.Word.{Word}

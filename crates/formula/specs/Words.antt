@@ -1,6 +1,5 @@
 -- What the bits of a word say: its shape. Assumes nothing.
 use Rattle.std.specs.Prelude.{◌≡◌, ℕ, ◌/◌, ◌%◌, ◌^◌, ◌<◌, if◌then◌else◌, List, ℤ, pos, ◌-ℤ◌, Some, None, Option, Result, IfOk, ok_or, option_map, ◌==◌, nat_lt, slice_index}
-use Rattle.formula.specs.declared.operation.Operation.{Operation}
 use Rattle.formula.specs.declared.word.NotAllowed.{NotAllowed}
 use Rattle.formula.specs.declared.word.Word.{Word}
 use Rattle.formula.specs.declared.word.Word.TheVariants.{Number, Variable, Operation as Op, Input, Abstraction, Application}
