@@ -1,10 +1,10 @@
 -- What a digit, and a line of eight, give back.
-use Rattle.std.proofs.Common.{◌≡◌, ℕ, ◌+◌, ◌*◌, ◌/◌, ◌%◌, ◌^◌, ◌<◌, ◌≤◌, List, ◌∷◌, length, get_or, drop, Some, None, Option, sym, refl, ap, ◌∙◌, add-one, arith}
+use Rattle.std.proofs.Common.{◌≡◌, ℕ, ◌+◌, ◌*◌, ◌/◌, ◌%◌, ◌^◌, ◌<◌, ◌≤◌, List, ◌∷◌, length, get_or, drop, Some, None, Option, option_and_then, option_map, sym, refl, ap, ◌∙◌, add-one, arith}
 use native.Mathlib.Nat.{pow-succ', pow-le-pow_right}
 use Rattle.std.proofs.lemmas.List.{at_drop_more, at_drop_all}
 use Rattle.std.proofs.lemmas.Bool.{cond-true, eq-eqb}
 use Rattle.std.proofs.lemmas.Bool.Decides.{nat_tests}
-use Rattle.hexline.specs.Hex.{digit_value, and_then, spelled, word_of, digit_of, digit_at, line_of}
+use Rattle.hexline.specs.Hex.{digit_value, spelled, word_of, digit_of, digit_at, line_of}
 
 digit_below : (b d : ℕ) → digit_value b ≡ Some d → d < 16
 digit_below b d e = grind (arith, nat_tests)
@@ -25,7 +25,7 @@ room i n small lt =
 -- a digit of w carries its upper bits on to w's bits from k
 next : (n w k : ℕ) (bs : List ℕ) → 16 * n + w / 2 ^ k % 16 ≡ w / 2 ^ k → spelled n (digit_at w k ∷ bs) ≡ spelled (w / 2 ^ k) bs
 next n w k bs e =
-    ap (λ o. and_then o (λ d. spelled (16 * n + d) bs)) (digit_back (w / 2 ^ k % 16) (omega arith)) ∙ ap (λ m. spelled m bs) e
+    ap (option_and_then (λ d. spelled (16 * n + d) bs)) (digit_back (w / 2 ^ k % 16) (omega arith)) ∙ ap (λ m. spelled m bs) e
 
 pub word_back : (w : ℕ) → w < 2 ^ 32 → word_of (line_of w) ≡ Some w
 word_back w h =
@@ -45,12 +45,12 @@ pub word_is : (line : List ℕ) → length line ≡ 8 → word_of line ≡ spell
 word_is line e = cond-true _ _ _ (eq-eqb (length line) 8 e)
 
 -- the line's meaning from its byte i on
-from_byte : (line : List ℕ) (n i : ℕ) → i < length line → spelled n (drop i line) ≡ and_then (digit_value (get_or line i 0)) (λ d. spelled (16 * n + d) (drop (i + 1) line))
+from_byte : (line : List ℕ) (n i : ℕ) → i < length line → spelled n (drop i line) ≡ option_and_then (λ d. spelled (16 * n + d) (drop (i + 1) line)) (digit_value (get_or line i 0))
 from_byte line n i lt = at_drop_more (spelled n) line i 0 lt
 
 -- one byte more spells m, or nothing
 abbrev plus : ℕ → Option ℕ → Option ℕ
-plus n o = and_then o (λ d. Some (16 * n + d))
+plus n = option_map (λ d. 16 * n + d)
 
 pub at_digit : (line : List ℕ) (n i m : ℕ) → i < length line → n < 16 ^ i → Some m ≡ plus n (digit_value (get_or line i 0)) → (m < 16 ^ (i + 1)) × (spelled m (drop (i + 1) line) ≡ spelled n (drop i line))
 at_digit line n i m lt small e = by (digit_value (get_or line i 0)) refl e
@@ -59,13 +59,13 @@ at_digit line n i m lt small e = by (digit_value (get_or line i 0)) refl e
     by None is e = let z : ◌≡◌ {A = ℕ} 0 1 = cc in absurd (omega arith)
     by (Some d) is e =
         let whole : m ≡ 16 * n + d = cc in
-        let carried = from_byte line n i lt ∙ ap (λ o. and_then o (λ d. spelled (16 * n + d) (drop (i + 1) line))) is in
+        let carried = from_byte line n i lt ∙ ap (option_and_then (λ d. spelled (16 * n + d) (drop (i + 1) line))) is in
         (rw whole (one_more i n d small (digit_below (get_or line i 0) d is)), ap (λ k. spelled k (drop (i + 1) line)) whole ∙ sym carried)
 
 pub at_other : (line : List ℕ) (n i : ℕ) → i < length line → None ≡ plus n (digit_value (get_or line i 0)) → spelled n (drop i line) ≡ None
 at_other line n i lt e = from_byte line n i lt ∙ by (digit_value (get_or line i 0)) e
   where
-    by : (o : Option ℕ) → None ≡ plus n o → and_then o (λ d. spelled (16 * n + d) (drop (i + 1) line)) ≡ None
+    by : (o : Option ℕ) → None ≡ plus n o → option_and_then (λ d. spelled (16 * n + d) (drop (i + 1) line)) o ≡ None
     by None e = refl
     by (Some d) e = let z : ◌≡◌ {A = ℕ} 0 1 = cc in absurd (omega arith)
 

@@ -1,5 +1,5 @@
 -- The lemmas that the functions' proofs share.
-mod Digits
+pub mod Digits
 mod Cuts
 mod Steps
 mod Longer

@@ -1,18 +1,14 @@
 -- A 32-bit word as a line of exactly eight lowercase hexadecimal digits. Assumes nothing.
-use Rattle.std.specs.Prelude.{ℕ, ◌+◌, ◌-◌, ◌*◌, ◌/◌, ◌%◌, ◌^◌, cond, ◌&&◌, List, [], ◌∷◌, length, Some, None, Option, ◌==◌, nat_le, nat_lt}
+use Rattle.std.specs.Prelude.{ℕ, ◌+◌, ◌-◌, ◌*◌, ◌/◌, ◌%◌, ◌^◌, cond, ◌&&◌, List, [], ◌∷◌, length, Some, None, Option, option_and_then, ◌==◌, nat_le, nat_lt}
 
 -- the number that a byte stands for: '0' to '9' are 48 to 57, 'a' to 'f' are 97 to 102
 abbrev pub digit_value : ℕ → Option ℕ
 digit_value b = cond (nat_le 48 b && nat_le b 57) (Some (b - 48)) (cond (nat_le 97 b && nat_le b 102) (Some (b - 87)) None)
 
-abbrev pub and_then : Option ℕ → (ℕ → Option ℕ) → Option ℕ
-and_then None f = None
-and_then (Some d) f = f d
-
 -- the number that digits spell, most significant first, after digits that spell n
 abbrev pub spelled : ℕ → List ℕ → Option ℕ
 spelled n [] = Some n
-spelled n (b ∷ bs) = and_then (digit_value b) (λ d. spelled (16 * n + d) bs)
+spelled n (b ∷ bs) = option_and_then (λ d. spelled (16 * n + d) bs) (digit_value b)
 
 -- the word of a line: eight digits give their number, and nothing else gives one
 abbrev pub word_of : List ℕ → Option ℕ

@@ -1,5 +1,5 @@
 -- A text as lines, and what it means that its lines were read into a table. Assumes nothing.
-use Rattle.std.specs.Prelude.{◌≡◌, ℕ, ◌+◌, ◌-◌, ◌*◌, ◌<◌, ◌≤◌, cond, ◌⊎◌, List, [], ◌∷◌, ◌++◌, length, Some, None, Ok, Err, Result, ◌==◌, slice_index, slice_index_or, slice_set}
+use Rattle.std.specs.Prelude.{◌≡◌, ℕ, ◌+◌, ◌-◌, ◌*◌, ◌<◌, ◌≤◌, cond, ◌⊎◌, List, [], ◌∷◌, ◌++◌, codes, decimal, length, take, Some, None, Ok, Err, Result, ◌==◌, if◌then◌else◌, slice_index, slice_index_or, slice_set}
 use Rattle.hexline.specs.Hex.{word_of}
 use Rattle.hexline.specs.declared.table.BadLine.{BadLine}
 
@@ -12,6 +12,10 @@ onto b (l ∷ ls) = (b ∷ l) ∷ ls
 abbrev pub lines_of : List ℕ → List (List ℕ)
 lines_of [] = []
 lines_of (b ∷ bs) = cond (b == 10) ([] ∷ lines_of bs) (onto b (lines_of bs))
+
+-- a line without the newline at its end, if it has one
+abbrev pub without_newline : List ℕ → List ℕ
+without_newline line = if slice_index line (length line - 1) == 10 then take (length line - 1) line else line
 
 -- a line read into a place of a table, or the line's number and why it is not: malformed, or no such place
 abbrev pub LineInto : List ℕ → ℕ → List ℕ → List ℕ → Result (Unit {0}) BadLine → Type 0
@@ -46,3 +50,7 @@ ReadInto lines before after (Err e) = Stopped lines before after e.number
 -- a text of more than nine bytes for each place has the same answer whatever follows it
 abbrev pub Decided : List ℕ → List ℕ → List ℕ → Result ℕ BadLine → Type 0
 Decided text before after r = (more : List ℕ) → 9 * length before < length text → ReadInto (lines_of (text ++ more)) before after r
+
+-- what is said of the line of this number
+abbrev pub bad_line_text : ℕ → List ℕ
+bad_line_text number = codes "bad line " ++ decimal number

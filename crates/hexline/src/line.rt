@@ -1,9 +1,12 @@
 // One line: eight lowercase hexadecimal digits, the most significant first.
-ghost use Rattle.std.specs.Prelude.{◌≡◌, ◌+◌, ◌*◌, ◌^◌, ◌<◌, Some};
-ghost use Rattle.hexline.specs.Hex.{and_then, digit_at, digit_value, line_of, word_of};
+ghost use Rattle.std.specs.Prelude.{◌≡◌, ◌+◌, ◌*◌, ◌^◌, ◌<◌, Some, option_map};
+ghost use Rattle.hexline.specs.Hex.{digit_at, digit_value, line_of, word_of};
+
+use std::array;
 
 const LENGTH: usize = 8;
 
+// The value of a digit; `to_digit` takes capitals too.
 fn digit(byte: u8) -> Option<u32>
     ensures { result ≡ digit_value byte }
 {
@@ -17,12 +20,13 @@ fn digit(byte: u8) -> Option<u32>
 // The number with one digit more.
 fn with_digit(number: u32, byte: u8) -> Option<u32>
     requires { number < 2 ^ 28 }
-    ensures { result ≡ and_then (digit_value byte) (λ d. Some (16 * number + d)) }
+    ensures { result ≡ option_map (λ d. 16 * number + d) (digit_value byte) }
 {
     Some(16 * number + digit(byte)?)
 }
 
 // The word that a line of exactly eight digits spells.
+// `u32::from_str_radix` takes capitals, a plus sign and fewer digits too.
 pub fn read(line: &[u8]) -> Option<u32>
     ensures { result ≡ word_of line.now }
 {
@@ -41,31 +45,18 @@ fn digit_at(word: u32, bit: u32) -> u8
     requires { bit < 32 }
     ensures { result ≡ digit_at word bit }
 {
-    let value = ((word >> bit) % 16) as u8;
-    if value < 10 {
-        b'0' + value
-    } else {
-        b'a' + (value - 10)
-    }
+    char::from_digit((word >> bit) % 16, 16).unwrap() as u8
 }
 
 // The digits of a word, the highest first.
 fn digits(word: u32) -> [u8; 8]
     ensures { result ≡ line_of word }
 {
-    [
-        digit_at(word, 28),
-        digit_at(word, 24),
-        digit_at(word, 20),
-        digit_at(word, 16),
-        digit_at(word, 12),
-        digit_at(word, 8),
-        digit_at(word, 4),
-        digit_at(word, 0),
-    ]
+    array::from_fn(|place| digit_at(word, 28 - 4 * place as u32))
 }
 
 // The line of a word, which `read` gives back.
+#[tactic(auto, using(crate::proofs::Digits::word_back))]
 pub fn write(word: u32) -> [u8; 8]
     ensures value { result ≡ line_of word }
     ensures reads_back { word_of result ≡ Some word }

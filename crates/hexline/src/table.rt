@@ -1,8 +1,10 @@
 // A text of lines, one word each, read into a table.
-ghost use Rattle.std.specs.Prelude.{◌≡◌, ◌<◌, ◌≤◌, ◌∷◌, length};
-ghost use Rattle.hexline.specs.Lines.{Decided, LineInto, ReadInto, lines_of};
+ghost use Rattle.std.specs.Prelude.{◌≡◌, ◌<◌, ◌≤◌, ◌∷◌, Some, length};
+ghost use Rattle.hexline.specs.Lines.{Decided, LineInto, ReadInto, bad_line_text, lines_of, without_newline};
 
 use crate::line::read;
+use std::error::Error;
+use std::fmt;
 
 const NEWLINE: u8 = b'\n';
 
@@ -12,18 +14,24 @@ pub struct BadLine {
     pub number: usize,
 }
 
-// The first line of a text that is not empty, and what follows its newline.
-fn first_line(text: &[u8]) -> (&[u8], &[u8])
-    requires { 0 < length text.now }
-    ensures cut { lines_of text.now ≡ result.0.now ∷ lines_of result.1.now }
-    ensures shorter { length result.1.now < length text.now }
-{
-    for (i, byte) in text.iter().enumerate() {
-        if *byte == NEWLINE {
-            return (&text[0..i], &text[i + 1..]);
-        }
+impl fmt::Display for BadLine {
+    ghost output = { λ bad. Some (bad_line_text bad.number) };
+
+    fn fmt<W: fmt::Write>(&self, f: &mut fmt::Formatter<W>) -> fmt::Result {
+        write!(f, "bad line {}", self.number)
     }
-    (text, &[])
+}
+
+impl Error for BadLine {}
+
+// A line of a text without the newline that ends it.
+fn without_newline(line: &[u8]) -> &[u8]
+    ensures { result.now ≡ without_newline line.now }
+{
+    match line {
+        [line @ .., NEWLINE] => line,
+        _ => line,
+    }
 }
 
 // Reads a line into a place of the table.
@@ -45,13 +53,11 @@ pub fn read_table(text: &[u8], table: &mut [u32]) -> Result<usize, BadLine>
     ensures reads { ReadInto (lines_of text.now) table.old table.new result }
     ensures enough { Decided text.now table.old table.new result }
 {
-    let mut rest = text;
+    // The count is the next line's place, and at the end the answer.
     let mut count = 0;
-    while !rest.is_empty() {
-        let (line, after) = first_line(rest);
-        read_line(line, table, count)?;
+    for line in text.split_inclusive(|byte| *byte == NEWLINE) {
+        read_line(without_newline(line), table, count)?;
         count += 1;
-        rest = after;
     }
     Ok(count)
 }
