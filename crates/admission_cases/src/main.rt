@@ -9,31 +9,21 @@ fn answer(rt: &HostRuntime, line: &str) -> anyhow::Result<()> {
     let heap = rt.alloc();
     let mut parts = line.split(' ');
     let inputs = parts.next().context("no input count")?.parse::<u32>()?;
-    let mut words = Vec::new(heap);
-    for part in parts {
-        words.push(hexline::read(part.as_bytes()).context("no word")?)?;
-    }
+    let words = parts
+        .map(|part| hexline::read(part.as_bytes()).context("no word"))
+        .try_collect::<Vec<u32>>(heap)?;
     let mut work = vec![in heap; 9u32; words.len().saturating_add(1)]?;
     let mut formula = Formula::fresh();
-    let answer = admit(words.as_slice(), inputs, work.as_mut_slice(), &mut formula);
-    match answer {
+    match admit(words.as_slice(), inputs, work.as_mut_slice(), &mut formula) {
         Ok(()) => println!(rt; "admitted {work:?}")?,
-        Err(why) => {
-            let number = why.number();
-            let place = why.place();
-            println!(rt; "refused {number} {place} {work:?}")?
-        }
-    }
-    Ok(())
-}
-
-fn run(rt: &HostRuntime) -> anyhow::Result<()> {
-    for line in rt.lines(rt.alloc()) {
-        answer(rt, line?.as_str())?;
+        Err(why) => println!(rt; "{why} {work:?}")?,
     }
     Ok(())
 }
 
 fn main(rt: HostRuntime) -> anyhow::Result<()> {
-    run(&rt)
+    for line in rt.lines(rt.alloc()) {
+        answer(&rt, line?.as_str())?;
+    }
+    Ok(())
 }

@@ -1,9 +1,8 @@
 -- One row more. Assumes nothing.
-use Rattle.std.proofs.Common.{◌≡◌, ℕ, ◌+◌, ◌-◌, ◌<◌, ◌≤◌, ltb, List, ◌++◌, length, get_or, take, is_some, IfSome, Some, None, Option, sym, ap, ◌∙◌, add-one, arith, length-take, get_or-take, Bor}
+use Rattle.std.proofs.Common.{◌≡◌, ℕ, ◌+◌, ◌<◌, ltb, List, ◌++◌, length, get_or, is_some, IfSome, Some, None, Option, sym, ap, ◌∙◌, add-one, Bor}
 use Rattle.std.proofs.lemmas.List.{get_or_read}
 use Rattle.std.proofs.lemmas.Bool.{ltb-true}
 use Rattle.std.specs.Option.{option_map}
-use Rattle.formula.specs.Admission.{Counted}
 use Rattle.formula.specs.Binders.{binders}
 use Rattle.formula.specs.Words.{shape_at}
 use Rattle.listing.specs.Report.{count_at, row_text, rows_text}
@@ -18,13 +17,3 @@ found_count words counts place (Some x) right some is =
 pub rows_more : (words : List ℕ) (counted place : ℕ) (count : Option ℕ) → count ≡ count_at words counted place → rows_text words counted place ++ row_text place (get_or words place 0) (shape_at words place) count ≡ rows_text words counted (place + 1)
 rows_more words counted place count e =
     ap (λ o. rows_text words counted place ++ row_text place (get_or words place 0) (shape_at words place) o) e ∙ ap (rows_text words counted) (sym (add-one place))
-
-module _ (words before work : List ℕ) (n many : ℕ) (counted : Counted words many before work) (whole : n ≡ many) where
-  -- the head of a work table holds the counts
-  pub head_counts : (place : ℕ) → place < length (take (n - 0) work) → get_or (take (n - 0) work) place 0 ≡ binders words place
-  head_counts place h =
-      let under : place < n = omega (arith, length-take (n - 0) work) in
-      get_or-take (n - 0) work place 0 (omega arith) ∙ counted.written place (omega arith)
-
-  pub head_length : many ≤ length work → length (take (n - 0) work) ≡ many
-  head_length fits = omega (arith, length-take (n - 0) work)

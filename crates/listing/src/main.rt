@@ -3,7 +3,6 @@
 
 mod argument;
 mod report;
-mod spelling;
 
 use anyhow::anyhow;
 use argument::input_count;
@@ -14,8 +13,8 @@ use std::io::Read;
 // Nine bytes a line, and one that shows that more lines follow: the report needs no more.
 const MOST_BYTES: u64 = 9 * MOST_LINES as u64 + 1;
 
-fn run(rt: &HostRuntime) -> anyhow::Result<()> {
-    let mut args = env::args(rt)?.skip(1);
+fn main(rt: HostRuntime) -> anyhow::Result<()> {
+    let mut args = env::args(&rt)?.skip(1);
     let argument = args.next();
     let inputs = match (input_count(argument.as_deref()), args.next()) {
         (Some(inputs), None) => inputs,
@@ -25,10 +24,6 @@ fn run(rt: &HostRuntime) -> anyhow::Result<()> {
     rt.stdin().take(MOST_BYTES).read_to_end(&mut text)?;
     rt.print(report(rt.alloc(), text.as_slice(), inputs)?)?;
     Ok(())
-}
-
-fn main(rt: HostRuntime) -> anyhow::Result<()> {
-    run(&rt)
 }
 
 #[cfg(test)]

@@ -3,9 +3,8 @@ ghost use Rattle.std.specs.Prelude.{◌≡◌, ℕ, ◌<◌, ◌≤◌, length, 
 ghost use Rattle.formula.specs.Admission.{counted_by};
 ghost use Rattle.formula.specs.Binders.{binders};
 ghost use Rattle.formula.specs.Words.{shape};
-ghost use Rattle.listing.specs.Report.{Decided, Listed, Reported, Told, bad_line_text, count_text, row_text, rows_text, verdict_text};
+ghost use Rattle.listing.specs.Report.{Decided, Listed, Reported, Told, count_text, row_text, rows_text, verdict_text};
 
-use crate::spelling::Shape;
 use formula::{Formula, Refusal, Word, admit};
 use hexline::{BadLine, read_table};
 use std::alloc::{AllocError, Global};
@@ -23,7 +22,7 @@ impl fmt::Display for Count {
     fn fmt<W: fmt::Write>(&self, f: &mut fmt::Formatter<W>) -> fmt::Result {
         match self.0 {
             Some(count) => write!(f, "binders {count}"),
-            None => write!(f, "not counted"),
+            None => f.write_str("not counted"),
         }
     }
 }
@@ -33,9 +32,11 @@ fn row(heap: Global, place: usize, word: u32, count: Option<u32>) -> Result<Stri
 {
     let digits = hexline::write(word);
     let line = str::from_utf8(&digits).unwrap();
-    let shape = Shape(Word::decode(word));
     let count = Count(count);
-    format!(in heap; "{place} {line} {shape}, {count}\n")
+    match Word::try_from(word) {
+        Ok(shape) => format!(in heap; "{place} {line} {shape}, {count}\n"),
+        Err(none) => format!(in heap; "{place} {line} {none}, {count}\n"),
+    }
 }
 
 fn verdict(heap: Global, answer: Result<(), Refusal>) -> Result<String, AllocError>
@@ -43,19 +44,8 @@ fn verdict(heap: Global, answer: Result<(), Refusal>) -> Result<String, AllocErr
 {
     match answer {
         Ok(()) => format!(in heap; "admitted\n"),
-        Err(why) => {
-            let number = why.number();
-            let place = why.place();
-            format!(in heap; "refused {number} {place}\n")
-        }
+        Err(why) => format!(in heap; "{why}\n"),
     }
-}
-
-fn bad_line(heap: Global, bad: BadLine) -> Result<String, AllocError>
-    ensures { IfOk result (λ out. string_bytes out ≡ bad_line_text bad.number) }
-{
-    let number = bad.number;
-    format!(in heap; "bad line {number}\n")
 }
 
 // How many binder counts admission wrote.
@@ -72,6 +62,7 @@ fn counted(words: &[u32], answer: Result<(), Refusal>) -> usize
 }
 
 // The rows of the words, with the binder counts of the first of them.
+#[tactic(auto, using(crate::proofs::Rows::rows_more, crate::proofs::Rows::found_count))]
 fn rows(heap: Global, words: &[u32], counts: &[u32]) -> Result<String, AllocError>
     requires { (place : ℕ) → place < length counts.now → slice_index counts.now place ≡ binders words.now place }
     ensures { IfOk result (λ out. string_bytes out ≡ rows_text words.now (length counts.now) (length words.now)) }
@@ -110,7 +101,7 @@ fn told(
 {
     match lines {
         Ok(count) => list(heap, &table[0..count], inputs),
-        Err(bad) => bad_line(heap, bad),
+        Err(bad) => format!(in heap; "{bad}\n"),
     }
 }
 
