@@ -35,10 +35,10 @@ pub names_below : (inputs : ℕ) (word : Word) (place : ℕ) → is_some (word_r
 names_below inputs word place = checked_below place (all_below place (named_places word)) (input_known inputs word)
 
 -- the first bad word is refused by the check that it fails, with the counts before it written
-pub first_bad : (inputs : ℕ) (words : List ℕ) (room place : ℕ) (why : Refusal) → Sized words → length words ≤ room → FirstBad inputs words place why → Refused inputs words room why × (counted_by words (Err why) ≡ place)
+pub first_bad : (inputs : ℕ) (words : List ℕ) (room place : ℕ) (why : Refusal) → Sized words → length words ≤ room → FirstBad inputs words place why → Refused inputs words room why × (counted_by {A = Unit {0}} words (Err why) ≡ place)
 first_bad inputs words room place why sized fits bad = at why (of_shape inputs (shape_at words place) place why bad.here) bad
   where
-    at : (e : Refusal) → OfWord place e → FirstBad inputs words place e → Refused inputs words room e × (counted_by words (Err e) ≡ place)
+    at : (e : Refusal) → OfWord place e → FirstBad inputs words place e → Refused inputs words room e × (counted_by {A = Unit {0}} words (Err e) ≡ place)
     at e leaf first = ((sized, fits, first), refl)
     at e below first = ((sized, fits, first), refl)
     at e input first = ((sized, fits, first), refl)

@@ -59,12 +59,12 @@ Refused inputs words room (NotClosed place) =
     Sized words × (length words ≤ room) × GoodBefore inputs words (length words) × (Closed words → ⊥) × (place ≡ root words)
 
 -- what admission answers
-abbrev pub Answers : ℕ → List ℕ → ℕ → Result (Unit {0}) Refusal → Type 0
+abbrev pub Answers : {A : Type 0} → ℕ → List ℕ → ℕ → Result A Refusal → Type 0
 Answers inputs words room (Ok x) = Admitted inputs words × (length words ≤ room)
 Answers inputs words room (Err why) = Refused inputs words room why
 
 -- how many binder counts an answer leaves written
-abbrev pub counted_by : List ℕ → Result (Unit {0}) Refusal → ℕ
+abbrev pub counted_by : {A : Type 0} → List ℕ → Result A Refusal → ℕ
 counted_by words (Ok x) = length words
 counted_by words (Err WordCount) = 0
 counted_by words (Err ShortTable) = 0

@@ -1,9 +1,9 @@
 // Admission: a table of words is checked from place 0 upwards, and its binder counts are written.
-ghost use Rattle.std.specs.Prelude.{◌≡◌, ◌^◌, ◌<◌, ◌≤◌, true, length, is_ok, if◌then◌else◌, MatchResult, slice_index, slice_set};
+ghost use Rattle.std.specs.Prelude.{◌≡◌, ◌^◌, ◌<◌, ◌≤◌, true, length, is_ok, IfOk, if◌then◌else◌, MatchResult, slice_index, slice_set};
 ghost use Rattle.std.specs.Result.{result_err};
 ghost use Rattle.formula.specs.Admission.{Answers, Counted, GoodBefore, Refused, Sized, all_below, counted_by, shape_refusal, word_refusal};
 ghost use Rattle.formula.specs.Binders.{binders_of, named_places, shape_binders};
-ghost use Rattle.formula.specs.Formulas.{Filled};
+ghost use Rattle.formula.specs.Formulas.{Filled, Holds};
 ghost use Rattle.formula.specs.Words.{index_of, shape};
 
 use crate::admitted::Formula;
@@ -58,7 +58,8 @@ fn count_word(word: u32, place: usize, inputs: u32, work: &mut [u32]) -> Result<
     Ok(())
 }
 
-// Checks the words from place 0 upwards and writes their binder counts.
+// Checks the words from place 0 upwards and writes their binder counts, beside the words in the
+// host's own table: the crate has no memory but what is lent.
 fn count(words: &[u32], inputs: u32, work: &mut [u32]) -> Result<(), Refusal>
     requires sized { Sized words.now }
     requires room { length words.now ≤ length work.old }
@@ -71,16 +72,11 @@ fn count(words: &[u32], inputs: u32, work: &mut [u32]) -> Result<(), Refusal>
     Ok(())
 }
 
-// Fills the formula with these words if they are admitted for so many inputs.
-pub fn admit<'a>(
-    words: &'a [u32],
-    inputs: u32,
-    work: &mut [u32],
-    formula: &mut Formula<'a>,
-) -> Result<(), Refusal>
+// The formula of these words, if they are admitted for so many inputs.
+fn admitted<'a>(words: &'a [u32], inputs: u32, work: &mut [u32]) -> Result<Formula<'a>, Refusal>
     ensures answer { Answers inputs words.now (length work.old) result }
     ensures counts { Counted words.now (counted_by words.now result) work.old work.new }
-    ensures filled { Filled words.now inputs formula.old formula.new result }
+    ensures formula { IfOk result (Holds words.now inputs) }
 {
     if words.is_empty() || words.len() > MOST_WORDS {
         return Err(Refusal::WordCount);
@@ -93,6 +89,20 @@ pub fn admit<'a>(
     if work[root] != 0 {
         return Err(Refusal::NotClosed(root as u32));
     }
-    *formula = Formula { words, inputs };
+    Ok(Formula { words, inputs })
+}
+
+// Fills the formula that a host keeps with these words, if they are admitted for so many inputs.
+pub fn admit<'a>(
+    words: &'a [u32],
+    inputs: u32,
+    work: &mut [u32],
+    formula: &mut Formula<'a>,
+) -> Result<(), Refusal>
+    ensures answer { Answers inputs words.now (length work.old) result }
+    ensures counts { Counted words.now (counted_by words.now result) work.old work.new }
+    ensures filled { Filled words.now inputs formula.old formula.new result }
+{
+    *formula = admitted(words, inputs, work)?;
     Ok(())
 }

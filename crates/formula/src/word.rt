@@ -32,7 +32,8 @@ impl TryFrom<u32> for Word {
     }
 }
 
-// The kind and the tell are two bits each, so what is no other is the last.
+// The word of a kind. A kind, like a tell, is two bits of the word, told apart here and nowhere
+// else: enums of them would take one more match to make.
 fn of_kind(kind: u32, word: u32) -> Result<Word, NotAllowed>
     ensures { result ≡ allowed (kind_shape kind word) }
 {

@@ -61,7 +61,8 @@ fn counted(words: &[u32], answer: Result<(), Refusal>) -> usize
     }
 }
 
-// The rows of the words, with the binder counts of the first of them.
+// The rows of the words, with the binder counts of the first of them, which are the head of the
+// work table that admission wrote.
 #[tactic(auto, using(crate::proofs::Rows::rows_more, crate::proofs::Rows::found_count))]
 fn rows(heap: Global, words: &[u32], counts: &[u32]) -> Result<String, AllocError>
     requires { (place : ℕ) → place < length counts.now → slice_index counts.now place ≡ binders words.now place }
