@@ -1,21 +1,15 @@
 -- The parts of a text, each with its newline, are its lines.
-use Rattle.std.proofs.Common.{◌≡◌, ℕ, suc, ◌+◌, ◌-◌, ◌<◌, ◌⊎◌, min, Bool, List, [], ◌∷◌, ◌++◌, length, get_or, eqb, Option, Some, None, MatchOption, Bor, sym, ap, subst, ◌∙◌, inl, inr, ⊎_elim, arith}
-use Rattle.std.proofs.lemmas.Bool.{cond-false, cases_lt, ne_eqb, eqb-false, eqb-true}
+use Rattle.std.proofs.Common.{◌≡◌, ℕ, suc, ◌+◌, ◌-◌, ◌<◌, ◌⊎◌, min, Bool, List, [], ◌∷◌, ◌++◌, length, get_or, eqb, Option, MatchOption, Bor, ap, subst, ◌∙◌, arith}
 use Rattle.std.proofs.lemmas.Bool.Decides.{nat_tests}
 use Rattle.std.proofs.lemmas.List.{length-append, nil_from_length, get_or_append_left}
 use Rattle.std.proofs.lemmas.Iterator.{YieldsList}
-use Rattle.std.proofs.lemmas.Iterator.Consumers.{YieldsList-turn, YieldsList-end}
 use Rattle.std.proofs.lemmas.Iterator.Splits.{YieldsList-from_shown_while}
 use Rattle.std.specs.Fn.{ComputesKey}
-use Rattle.std.specs.Iterator.{Yields}
 use Rattle.std.specs.List.{IsFirstMatchOrLen}
 use Rattle.std.specs.Slice.Iter.{split_inclusive_rest, split_inclusive_callee}
 use Rattle.std.specs.declared.slice.SplitInclusive.{SplitInclusive}
 use denote.Param.Members.{Mut}
-use Rattle.hexline.specs.Lines.{onto, lines_of, without_newline}
-
-one_byte : (b : ℕ) (rest : List ℕ) → (b ≡ 10) ⊎ (rest ≡ []) → lines_of (b ∷ rest) ≡ without_newline (b ∷ []) ∷ lines_of rest
-one_byte b rest end = grind (arith, nat_tests)
+use Rattle.hexline.specs.Lines.{lines_of, without_newline}
 
 longer : (b c : ℕ) (bs : List ℕ) → without_newline (b ∷ c ∷ bs) ≡ b ∷ without_newline (c ∷ bs)
 longer b c bs =
@@ -23,13 +17,10 @@ longer b c bs =
     rw inner (grind (arith, nat_tests))
 
 first_line : (part rest : List ℕ) → 0 < length part → ((k : ℕ) → k + 1 < length part → get_or part k 0 ≡ 10 → ⊥) → (get_or part (length part - 1) 0 ≡ 10) ⊎ (rest ≡ []) → lines_of (part ++ rest) ≡ without_newline part ∷ lines_of rest
-first_line [] rest lt free end = absurd (omega arith)
-first_line (b ∷ []) rest lt free end = one_byte b rest end
 first_line (b ∷ c ∷ bs) rest lt free end =
     let inner : length (b ∷ c ∷ bs) - 1 ≡ suc (length (c ∷ bs) - 1) = omega arith in
-    cond-false _ _ _ (ne_eqb b 10 (free 0 (omega arith)))
-    ∙ ap (onto b) (first_line (c ∷ bs) rest (omega arith) (λ k h. free (suc k) (omega arith)) (rw inner at end))
-    ∙ ap (λ l. l ∷ lines_of rest) (sym (longer b c bs))
+    grind (arith, nat_tests, free 0, longer b c bs, first_line (c ∷ bs) rest (omega arith) (λ k h. free (suc k) (omega arith)) (rw inner at end))
+first_line part rest lt free end = grind (arith, nat_tests)
 
 -- what one call of `next` gives of the bytes bs
 cut : (bs part rest : List ℕ) (i : ℕ) → bs ≡ part ++ rest → length part ≡ min (i + 1) (length bs) → IsFirstMatchOrLen (λ b. eqb b 10) bs i → 0 < length bs → lines_of bs ≡ without_newline part ∷ lines_of rest
@@ -37,12 +28,7 @@ cut bs part rest i e long first lt =
     let read : (k : ℕ) → k < length part → get_or bs k 0 ≡ get_or part k 0 = λ k h. ap (λ l. get_or l k 0) e ∙ get_or_append_left part rest 0 k h in
     let size : length bs ≡ length part + length rest = ap length e ∙ length-append part rest in
     ap lines_of e
-    ∙ first_line part rest (omega arith)
-    (λ k h at. eqb-false _ _ (first.0 k 0 (omega arith) (omega arith)) (read k (omega arith) ∙ at))
-    (⊎_elim
-    (λ inside. let back : i ≡ length part - 1 = omega arith in inl (subst (λ k. get_or part k 0 ≡ 10) back (sym (read i (omega arith)) ∙ eqb-true _ _ (first.1 inside 0))))
-    (λ whole. inr (nil_from_length rest (omega arith)))
-    (cases_lt i (length bs)))
+    ∙ first_line part rest (omega arith) (λ k h at. grind (arith, nat_tests, read k, first.0 k 0)) (grind (arith, nat_tests, read i, first.1, nil_from_length rest))
 
 module _ {F : Type 0} (g : Mut F (Bor ℕ × Unit {0}) Bool) where
   abbrev steps : SplitInclusive ℕ F → Option (Bor (List ℕ)) → SplitInclusive ℕ F → Type 0
@@ -55,14 +41,3 @@ module _ {F : Type 0} (g : Mut F (Bor ℕ × Unit {0}) Bool) where
       (λ s t h k. ap (λ l. length (lines_of l)) (nil_from_length (split_inclusive_rest s) k.0))
       (λ s x t h k. let m = k.1.2 (λ b. eqb b 10) h in (m.0, cut (split_inclusive_rest s) x.now (split_inclusive_rest t) k.1.0 k.0 k.1.1 m.1 k.2))
       s computes)
-
-module _ {F : Type 0} {g : Mut F (Bor ℕ × Unit {0}) Bool} (s t u : SplitInclusive ℕ F) (text : List ℕ) (e : split_inclusive_rest s ≡ text) (computes : ComputesKey g (λ b. eqb b 10) (split_inclusive_callee s)) (xs : List (Bor (List ℕ))) (so_far : Yields (steps g) s xs t) (n : ℕ) (count : n ≡ length xs) where
-  -- a part that is given is the line at its place
-  pub line_here : {r : Option (Bor (List ℕ))} (x : Bor (List ℕ)) → r ≡ Some x → steps g t r u → (line : List ℕ) → line ≡ without_newline x.now → (n < length (lines_of text)) × (line ≡ get_or (lines_of text) n line)
-  line_here {r} x is step line same =
-      let turn = YieldsList-turn (YieldsList-from_split_inclusive g s text e computes) xs t so_far r u x is step in
-      rw (count, same) turn
-
-  -- where no part is given, each line was
-  pub no_line_here : {r : Option (Bor (List ℕ))} → r ≡ None → steps g t r u → n ≡ length (lines_of text)
-  no_line_here {r} is step = count ∙ (YieldsList-end (YieldsList-from_split_inclusive g s text e computes) xs t so_far r u is step).1

@@ -1,17 +1,13 @@
 -- A text as lines, and what it means that its lines were read into a table. Assumes nothing.
 use Rattle.std.specs.Prelude.{◌≡◌, ℕ, ◌+◌, ◌-◌, ◌*◌, ◌<◌, ◌≤◌, cond, ◌⊎◌, List, [], ◌∷◌, ◌++◌, codes, decimal, length, take, Some, None, Ok, Err, Result, ◌==◌, if◌then◌else◌, slice_index, slice_index_or, slice_set}
+use Rattle.std.specs.List.{onto_first}
 use Rattle.hexline.specs.Hex.{word_of}
 use Rattle.hexline.specs.declared.table.BadLine.{BadLine}
-
--- a byte put in front of the first line
-abbrev pub onto : ℕ → List (List ℕ) → List (List ℕ)
-onto b [] = (b ∷ []) ∷ []
-onto b (l ∷ ls) = (b ∷ l) ∷ ls
 
 -- a text cut at its newlines, byte 10; the last newline may be left out
 abbrev pub lines_of : List ℕ → List (List ℕ)
 lines_of [] = []
-lines_of (b ∷ bs) = cond (b == 10) ([] ∷ lines_of bs) (onto b (lines_of bs))
+lines_of (b ∷ bs) = cond (b == 10) ([] ∷ lines_of bs) (onto_first b (lines_of bs))
 
 -- a line without the newline at its end, if it has one
 abbrev pub without_newline : List ℕ → List ℕ

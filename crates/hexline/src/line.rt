@@ -1,5 +1,5 @@
 // One line: eight lowercase hexadecimal digits, the most significant first.
-ghost use Rattle.std.specs.Prelude.{◌≡◌, ◌+◌, ◌*◌, ◌^◌, ◌<◌, Some, option_map};
+ghost use Rattle.std.specs.Prelude.{◌≡◌, ◌+◌, ◌*◌, ◌^◌, ◌<◌, option_map};
 ghost use Rattle.hexline.specs.Hex.{digit_at, digit_value, line_of, word_of};
 
 use std::array;
@@ -27,6 +27,7 @@ fn with_digit(number: u32, byte: u8) -> Option<u32>
 
 // The word that a line of exactly eight digits spells.
 // `u32::from_str_radix` takes capitals, a plus sign and fewer digits too.
+#[tactic(auto, using(crate::proofs::Digits::room))]
 pub fn read(line: &[u8]) -> Option<u32>
     ensures { result ≡ word_of line.now }
 {
@@ -48,7 +49,7 @@ fn digit_at(word: u32, bit: u32) -> u8
     char::from_digit((word >> bit) % 16, 16).unwrap() as u8
 }
 
-// The digits of a word, the highest first.
+// The digits of a word, the highest first; `{:08x}` would need a `String`, and so the heap.
 fn digits(word: u32) -> [u8; 8]
     ensures { result ≡ line_of word }
 {

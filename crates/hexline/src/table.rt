@@ -1,5 +1,5 @@
 // A text of lines, one word each, read into a table.
-ghost use Rattle.std.specs.Prelude.{◌≡◌, ◌<◌, ◌≤◌, ◌∷◌, Some, length};
+ghost use Rattle.std.specs.Prelude.{◌≡◌, ◌≤◌, Some, length};
 ghost use Rattle.hexline.specs.Lines.{Decided, LineInto, ReadInto, bad_line_text, lines_of, without_newline};
 
 use crate::line::read;
@@ -40,6 +40,7 @@ fn read_line(line: &[u8], table: &mut [u32], place: usize) -> Result<(), BadLine
     ensures { LineInto line.now place table.old table.new result }
 {
     let bad = BadLine { number: place + 1 };
+    // A test and an index, since `get_mut` does not promise that the slice is written.
     if place == table.len() {
         return Err(bad);
     }
