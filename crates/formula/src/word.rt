@@ -1,6 +1,6 @@
 // The shapes of a 32-bit word.
 ghost use Rattle.std.specs.Prelude.{◌≡◌, ◌^◌, ◌<◌, Some, Ok, Err};
-ghost use Rattle.formula.specs.Words.{Decoded, allowed, bit_field, kind_shape, leaf_shape, shape, twos_complement};
+ghost use Rattle.formula.specs.Words.{Decoded, bit_field, twos_complement};
 ghost use Rattle.formula.specs.Spelling.{in_words, not_allowed_text};
 
 use crate::operation::Operation;
@@ -28,39 +28,24 @@ impl TryFrom<u32> for Word {
 
     #[tactic(auto, using(crate::proofs::Shapes::shape_decoded), unfolding(crate::specs::Words::shape))]
     fn try_from(word: u32) -> Result<Word, NotAllowed> {
-        of_kind(bits(word, 30, 2), word)
-    }
-}
-
-// The word of a kind. A kind, like a tell, is two bits of the word, told apart here and nowhere
-// else: enums of them would take one more match to make.
-fn of_kind(kind: u32, word: u32) -> Result<Word, NotAllowed>
-    ensures { result ≡ allowed (kind_shape kind word) }
-{
-    match kind {
-        0 => Ok(Word::Number(signed(bits(word, 0, 30)))),
-        1 => leaf(bits(word, 28, 2), bits(word, 0, 28)),
-        2 => Ok(Word::Abstraction {
-            body: bits(word, 0, 30),
-        }),
-        _ => Ok(Word::Application {
-            function: bits(word, 15, 15),
-            argument: bits(word, 0, 15),
-        }),
-    }
-}
-
-fn leaf(tell: u32, index: u32) -> Result<Word, NotAllowed>
-    ensures { result ≡ allowed (leaf_shape tell index) }
-{
-    match tell {
-        0 => Ok(Word::Variable(index)),
-        1 => {
-            let operation = Operation::try_from(index).map_err(|_| NotAllowed)?;
-            Ok(Word::Operation(operation))
+        let index = bits(word, 0, 28);
+        match (bits(word, 30, 2), bits(word, 28, 2)) {
+            (0, _) => Ok(Word::Number(signed(bits(word, 0, 30)))),
+            (1, 0) => Ok(Word::Variable(index)),
+            (1, 1) => {
+                let operation = Operation::try_from(index).map_err(|_| NotAllowed)?;
+                Ok(Word::Operation(operation))
+            }
+            (1, 2) => Ok(Word::Input(index)),
+            (1, _) => Err(NotAllowed),
+            (2, _) => Ok(Word::Abstraction {
+                body: bits(word, 0, 30),
+            }),
+            _ => Ok(Word::Application {
+                function: bits(word, 15, 15),
+                argument: bits(word, 0, 15),
+            }),
         }
-        2 => Ok(Word::Input(index)),
-        _ => Err(NotAllowed),
     }
 }
 
@@ -74,7 +59,7 @@ fn bits(word: u32, low: u32, many: u32) -> u32
     (word >> low) & ((1 << many) - 1)
 }
 
-// Thirty bits in two's complement.
+// Thirty bits in two's complement: a width for which the language has no type to convert from.
 fn signed(bits: u32) -> i32
     requires { bits < 2 ^ 30 }
     ensures { result ≡ twos_complement bits }
