@@ -1,1 +1,1 @@
-mod Writing
+mod Stepping

@@ -17,7 +17,7 @@ fn show<P: Picker>(
     q: usize,
     list: &mut [u32],
 ) -> io::Result<()>
-    ensures { Picks P.Picker.chooses picker.old picker.new shown.now q list.old list.new }
+    ensures { Picks P.chooses picker.old picker.new shown.now q list.old list.new }
 {
     let due = pick_greedily(picker, shown, q, list);
     println!(rt; "q = {q}: {due} due, {list:?}")

@@ -1,5 +1,6 @@
 -- Ticks that count operations: the figure of a number, and the outcome of an operation. Assumes nothing.
-use Rattle.std.specs.Prelude.{ℕ, ◌+◌, ◌-◌, ◌^◌, min, ℤ, Ok, Err, Result}
+use Rattle.std.specs.Prelude.{ℕ, ◌+◌, ◌-◌, ◌^◌, min, List, ◌++◌, codes, decimal, ℤ, Ok, Err, Result}
+use Rattle.std.specs.Fmt.{signed_decimal}
 use Rattle.formula.specs.declared.Operation.{Operation}
 use Rattle.figure.specs.declared.FigureFault.{FigureFault}
 use Rattle.figure.specs.declared.Ticks.{Ticks}
@@ -20,3 +21,7 @@ counted_number n = record { tick = tick_of n; count = 0 }
 
 abbrev pub counted_outcome : Operation → Counted → Counted → Result Counted FigureFault
 counted_outcome o l r = with_count (count_after l.count r.count) (tick_outcome o l.tick r.tick)
+
+-- in words
+abbrev pub counted_text : Counted → List ℕ
+counted_text c = signed_decimal c.tick.0 ++ (codes " by " ++ decimal c.count)

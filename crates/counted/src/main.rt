@@ -1,15 +1,15 @@
 // Ticks that count the operations that went into them: a kind of figure, and a program that prints some outcomes.
 #![tactic(auto)]
 
-ghost use Rattle.counted.specs.Meaning.{count_after, counted_number, counted_outcome};
+ghost use Rattle.counted.specs.Meaning.{count_after, counted_number, counted_outcome, counted_text};
 ghost use Rattle.formula.specs.declared.Operation.TheVariants.{Add, Mul};
-ghost use Rattle.std.specs.Prelude.{◌≡◌, Ok, Err};
+ghost use Rattle.std.specs.Prelude.{◌≡◌, Some, Ok, Err};
 
 use figure::{Figure, FigureFault, Ticks};
 use formula::Operation;
-use std::io;
+use std::{fmt, io};
 
-#[derive(Clone, Copy)]
+#[derive(Clone, Copy, PartialEq, Eq, Debug)]
 pub struct Counted {
     pub tick: Ticks,
     pub count: u32,
@@ -24,15 +24,11 @@ fn count_after(m: u32, n: u32) -> u32
 impl Figure for Counted {
     const CODE: u32 = 100;
 
-    ghost kind = { 100 };
+    ghost CODE = { 100 };
 
     ghost number = { counted_number };
 
     ghost outcome = { counted_outcome };
-
-    fn kind() -> u32 {
-        Self::CODE
-    }
 
     fn number(n: i32) -> Self {
         let tick = Ticks::number(n);
@@ -46,6 +42,15 @@ impl Figure for Counted {
     }
 }
 
+impl fmt::Display for Counted {
+    ghost output = { λ counted. Some (counted_text counted) };
+
+    fn fmt<W: fmt::Write>(&self, f: &mut fmt::Formatter<W>) -> fmt::Result {
+        let Counted { tick, count } = self;
+        write!(f, "{tick} by {count}")
+    }
+}
+
 // (a add b) mul (a add b)
 fn square_of_sum(a: Counted, b: Counted) -> Result<Counted, FigureFault>
     ensures { result ≡ elim (counted_outcome Add a b) [ Ok s ↦ counted_outcome Mul s s | Err e ↦ Err e ] }
@@ -56,8 +61,8 @@ fn square_of_sum(a: Counted, b: Counted) -> Result<Counted, FigureFault>
 
 fn show(rt: &impl Print, outcome: Result<Counted, FigureFault>) -> io::Result<()> {
     match outcome {
-        Ok(c) => println!(rt; "{} by {}", c.tick.0, c.count),
-        Err(fault) => println!(rt; "fault {}", fault.number()),
+        Ok(counted) => println!(rt; "{counted}"),
+        Err(fault) => println!(rt; "{fault}"),
     }
 }
 

@@ -1,4 +1,3 @@
-mod Fits
 mod Orders
 mod Points
 mod Ranges

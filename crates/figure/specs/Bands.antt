@@ -1,7 +1,8 @@
 -- What bands mean. Assumes nothing.
-use Rattle.std.specs.Prelude.{Bool, cond, ◌&&◌, ◌||◌, ℤ, pos, ◌≤ℤ◌, Ok, Err, Result}
+use Rattle.std.specs.Prelude.{ℕ, Bool, cond, ◌&&◌, ◌||◌, List, ◌++◌, codes, ℤ, pos, ◌≤ℤ◌, Ok, Err, Result}
 use Rattle.std.proofs.Common.{arith}
 use Rattle.std.proofs.lemmas.Int.{clamps, ints}
+use Rattle.std.specs.Fmt.{signed_decimal}
 use Rattle.std.specs.Int.{int_max, int_min}
 use Rattle.formula.specs.declared.Operation.{Operation}
 use Rattle.formula.specs.declared.Operation.TheVariants.{Add, Sub, Mul, Div, Min, Max}
@@ -76,3 +77,7 @@ band_outcome op x y = cond (divides op && holds_zero y) (Err ZeroDivisor) (range
 -- a band that cannot be divided by at its ends
 abbrev pub zero_end : Bands → Bool
 zero_end x = is_zero x.low || is_zero x.high
+
+-- a band in words
+abbrev pub band_text : Bands → List ℕ
+band_text x = signed_decimal (low_end x) ++ (codes " to " ++ signed_decimal (high_end x))

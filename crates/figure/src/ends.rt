@@ -8,6 +8,7 @@ use crate::exact::exact;
 use crate::tick::Ticks;
 use formula::Operation;
 
+// The order of the ends is no ghost field: `end_by_end` and `crossed` give it for their own operations only.
 #[derive(Clone, Copy)]
 pub(crate) struct Ends {
     pub(crate) low: i64,
@@ -36,51 +37,60 @@ impl Ends {
     }
 }
 
-pub(crate) fn ends_of(operation: Operation, left: Bands, right: Bands) -> Ends
-    requires { (divides operation && zero_end right) ≡ false }
-    ensures ends { result ≡ ends_of operation left right }
-    ensures ordered { result.low ≤ℤ result.high }
-{
-    match operation {
-        Operation::Add | Operation::Min | Operation::Max => end_by_end(operation, left, right),
-        Operation::Sub => crossed(operation, left, right),
-        Operation::Mul | Operation::Div => corners(operation, left, right),
+// An operation on two bands that divides by zero at no end.
+#[derive(Clone, Copy)]
+pub(crate) struct BandOperation {
+    pub(crate) operation: Operation,
+    pub(crate) left: Bands,
+    pub(crate) right: Bands,
+    ghost divisible: { (divides operation && zero_end right) ≡ false },
+}
+
+impl BandOperation {
+    pub(crate) fn ends(self) -> Ends
+        ensures ends { result ≡ ends_of self.operation self.left self.right }
+        ensures ordered { result.low ≤ℤ result.high }
+    {
+        match self.operation {
+            Operation::Add | Operation::Min | Operation::Max => self.end_by_end(),
+            Operation::Sub => self.crossed(),
+            Operation::Mul | Operation::Div => self.corners(),
+        }
     }
-}
 
-fn end_by_end(operation: Operation, left: Bands, right: Bands) -> Ends
-    requires { (divides operation && zero_end right) ≡ false }
-    ensures { result ≡ end_by_end operation left right }
-{
-    Ends {
-        low: exact(operation, left.low, right.low),
-        high: exact(operation, left.high, right.high),
+    // At the two low ends, and at the two high ends.
+    fn end_by_end(self) -> Ends
+        ensures { result ≡ end_by_end self.operation self.left self.right }
+    {
+        Ends {
+            low: exact(self.operation, self.left.low, self.right.low),
+            high: exact(self.operation, self.left.high, self.right.high),
+        }
     }
-}
 
-fn crossed(operation: Operation, left: Bands, right: Bands) -> Ends
-    requires { (divides operation && zero_end right) ≡ false }
-    ensures { result ≡ crossed operation left right }
-{
-    Ends {
-        low: exact(operation, left.low, right.high),
-        high: exact(operation, left.high, right.low),
+    // At each end of the first with the other of the second. One function for this and `end_by_end` would be given ends and no longer know that none is zero.
+    fn crossed(self) -> Ends
+        ensures { result ≡ crossed self.operation self.left self.right }
+    {
+        Ends {
+            low: exact(self.operation, self.left.low, self.right.high),
+            high: exact(self.operation, self.left.high, self.right.low),
+        }
     }
-}
 
-fn corners(operation: Operation, left: Bands, right: Bands) -> Ends
-    requires { (divides operation && zero_end right) ≡ false }
-    ensures { result ≡ corners operation left right }
-{
-    at_both_ends(operation, left.low, right).join(at_both_ends(operation, left.high, right))
-}
+    fn corners(self) -> Ends
+        ensures { result ≡ corners self.operation self.left self.right }
+    {
+        self.at_both_ends(self.left.low)
+            .join(self.at_both_ends(self.left.high))
+    }
 
-fn at_both_ends(operation: Operation, a: Ticks, right: Bands) -> Ends
-    requires { (divides operation && zero_end right) ≡ false }
-    ensures { result ≡ around (exact operation a.0 (low_end right)) (exact operation a.0 (high_end right)) }
-{
-    Ends::around(
-        exact(operation, a, right.low),
-        exact(operation, a, right.high),
-    )
+    fn at_both_ends(self, a: Ticks) -> Ends
+        ensures { result ≡ around (exact self.operation a.0 (low_end self.right)) (exact self.operation a.0 (high_end self.right)) }
+    {
+        Ends::around(
+            exact(self.operation, a, self.right.low),
+            exact(self.operation, a, self.right.high),
+        )
+    }
 }

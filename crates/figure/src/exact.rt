@@ -10,8 +10,8 @@ pub(crate) fn exact(operation: Operation, a: Ticks, b: Ticks) -> i64
     requires { (divides operation && is_zero b) ≡ false }
     ensures { result ≡ exact operation a.0 b.0 }
 {
-    let left = a.0 as i64;
-    let right = b.0 as i64;
+    let left = i64::from(a.0);
+    let right = i64::from(b.0);
     match operation {
         Operation::Add => left + right,
         Operation::Sub => left - right,
@@ -27,5 +27,5 @@ fn quotient(a: Ticks, b: Ticks) -> i64
     requires { is_zero b ≡ false }
     ensures { result ≡ quotient a.0 b.0 }
 {
-    a.0 as i64 / b.0 as i64
+    i64::from(a.0) / i64::from(b.0)
 }

@@ -1,6 +1,9 @@
 // Why an operation on two figures gives no figure.
-ghost use Rattle.std.specs.Prelude.{◌≡◌};
-ghost use Rattle.figure.specs.Faults.{fault_number};
+ghost use Rattle.std.specs.Prelude.{◌≡◌, Some};
+ghost use Rattle.figure.specs.Faults.{fault_number, fault_text};
+
+use std::error::Error;
+use std::fmt;
 
 #[derive(Clone, Copy, PartialEq, Eq, Debug)]
 pub enum FigureFault {
@@ -11,6 +14,7 @@ pub enum FigureFault {
 }
 
 impl FigureFault {
+    // The number by which a host is told of the fault, which `u32::from(fault)` would not say.
     pub fn number(self) -> u32
         ensures { result ≡ fault_number self }
     {
@@ -20,3 +24,14 @@ impl FigureFault {
         }
     }
 }
+
+impl fmt::Display for FigureFault {
+    ghost output = { λ fault. Some (fault_text fault) };
+
+    fn fmt<W: fmt::Write>(&self, f: &mut fmt::Formatter<W>) -> fmt::Result {
+        let number = self.number();
+        write!(f, "fault {number}")
+    }
+}
+
+impl Error for FigureFault {}

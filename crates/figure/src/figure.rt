@@ -11,18 +11,14 @@ pub trait Figure: Copy {
     // The kind's own number.
     const CODE: u32;
 
-    // That number, by the name that contracts use.
-    ghost kind: { ℕ };
+    // That number, as contracts see it.
+    ghost CODE: { ℕ };
 
     // The figure of a number.
     ghost number: { ℤ → Self };
 
     // What an operation gives on two figures.
     ghost outcome: { Operation → Self → Self → Result Self FigureFault };
-
-    // `CODE`, in every implementation.
-    fn kind() -> u32
-        ensures { result ≡ kind };
 
     fn number(n: i32) -> Self
         ensures { result ≡ number n };

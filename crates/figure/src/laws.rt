@@ -1,4 +1,4 @@
-// What follows from the meaning of ticks and bands. A function with an empty body carries a lemma.
+// What follows from the meaning of ticks and bands.
 ghost use Rattle.std.specs.Prelude.{◌≡◌, pos, neg_ℤ, ◌≤ℤ◌, Ok};
 ghost use Rattle.formula.specs.declared.Operation.TheVariants.{Div, Mul};
 ghost use Rattle.figure.specs.Bands.{band, band_outcome, ends_of, point};
@@ -36,6 +36,7 @@ fn product(left: (i32, i32), right: (i32, i32)) -> Result<Bands, FigureFault>
 }
 
 // The ends that an operation gives are in order, so none trades its place.
+#[tactic(auto, using(crate::proofs::Orders::ends_in_order, crate::proofs::Ranges::ends_kept))]
 pub fn ends_stay_ordered(
     operation: Operation,
     left: Bands,
@@ -45,24 +46,19 @@ pub fn ends_stay_ordered(
     ensures ordered { (ends_of operation left right).low ≤ℤ (ends_of operation left right).high }
     ensures kept { HasEnds (ends_of operation left right) result }
 {
-    ends_in_order(operation, left, right);
     Bands::operate(operation, left, right)
 }
-
-fn ends_in_order(operation: Operation, left: Bands, right: Bands)
-    ensures ordered { (ends_of operation left right).low ≤ℤ (ends_of operation left right).high }
-    ensures kept { HasEnds (ends_of operation left right) (band_outcome operation left right) }
-{}
 
 // On bands of one number each, bands answer as ticks do, at both ends.
 pub fn points_answer_as_ticks(operation: Operation, a: i32, b: i32) -> Result<Bands, FigureFault>
     ensures rule { band_outcome operation (point a) (point b) ≡ doubled (tick_outcome operation (tick a) (tick b)) }
     ensures answer { result ≡ doubled (tick_outcome operation (tick a) (tick b)) }
 {
-    outcome_at_points(operation, a, b);
-    Bands::operate(operation, Bands::number(a), Bands::number(b))
+    on_numbers(operation, a, b)
 }
 
-fn outcome_at_points(operation: Operation, a: i32, b: i32)
-    ensures { band_outcome operation (point a) (point b) ≡ doubled (tick_outcome operation (tick a) (tick b)) }
-{}
+fn on_numbers<F: Figure>(operation: Operation, a: i32, b: i32) -> Result<F, FigureFault>
+    ensures { result ≡ F.outcome operation (F.number a) (F.number b) }
+{
+    F::operate(operation, F::number(a), F::number(b))
+}

@@ -2,7 +2,6 @@
 #![tactic(auto)]
 
 mod band;
-mod band_figure;
 mod ends;
 mod exact;
 mod fault;

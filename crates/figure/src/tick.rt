@@ -1,27 +1,25 @@
 // Ticks: signed 32-bit numbers.
-ghost use Rattle.std.specs.Prelude.{◌≡◌};
+ghost use Rattle.std.specs.Prelude.{◌≡◌, Some};
+ghost use Rattle.std.specs.Fmt.{signed_decimal};
 ghost use Rattle.figure.specs.Ticks.{ranged, tick, tick_outcome};
 
 use crate::exact::exact;
 use crate::fault::FigureFault;
 use crate::figure::Figure;
 use formula::Operation;
+use std::fmt;
 
-#[derive(Clone, Copy)]
+#[derive(Clone, Copy, PartialEq, Eq, Debug)]
 pub struct Ticks(pub i32);
 
 impl Figure for Ticks {
     const CODE: u32 = 1;
 
-    ghost kind = { 1 };
+    ghost CODE = { 1 };
 
     ghost number = { tick };
 
     ghost outcome = { tick_outcome };
-
-    fn kind() -> u32 {
-        Self::CODE
-    }
 
     fn number(n: i32) -> Ticks {
         Ticks(n)
@@ -30,22 +28,35 @@ impl Figure for Ticks {
     fn operate(operation: Operation, left: Ticks, right: Ticks) -> Result<Ticks, FigureFault> {
         match operation {
             Operation::Div if right.0 == 0 => Err(FigureFault::ZeroDivisor),
-            _ => in_range(exact(operation, left, right)),
+            _ => Ticks::try_from(exact(operation, left, right)),
         }
     }
 }
 
+// Another range is a change of these two; `i32::try_from` in place of the test would tie it to the type.
 const LEAST: i64 = -2_147_483_648;
 
 const GREATEST: i64 = 2_147_483_647;
 
 // An exact result as a tick, where it is in range.
-pub(crate) fn in_range(exact: i64) -> Result<Ticks, FigureFault>
-    ensures { result ≡ ranged exact }
-{
-    if LEAST <= exact && exact <= GREATEST {
-        Ok(Ticks(exact as i32))
-    } else {
-        Err(FigureFault::OutOfRange)
+impl TryFrom<i64> for Ticks {
+    type Error = FigureFault;
+
+    ghost try_from_gives = { λ exact outcome. outcome ≡ ranged exact };
+
+    fn try_from(exact: i64) -> Result<Ticks, FigureFault> {
+        if (LEAST..=GREATEST).contains(&exact) {
+            Ok(Ticks(exact as i32))
+        } else {
+            Err(FigureFault::OutOfRange)
+        }
+    }
+}
+
+impl fmt::Display for Ticks {
+    ghost output = { λ tick. Some (signed_decimal tick.0) };
+
+    fn fmt<W: fmt::Write>(&self, f: &mut fmt::Formatter<W>) -> fmt::Result {
+        write!(f, "{}", self.0)
     }
 }

@@ -1,62 +1,61 @@
 // The outcome on each line of standard input: an operation's code, and then two ticks or the ends of two bands.
 #![tactic(auto)]
 
+ghost use Rattle.std.specs.Prelude.{◌++◌, Some, codes};
+ghost use Rattle.std.specs.Fmt.{signed_decimal};
+ghost use Rattle.figure.specs.Bands.{high_end, low_end};
+
 use anyhow::{Context, anyhow};
 use figure::{Bands, Figure, FigureFault, Ticks};
 use formula::Operation;
+use std::fmt;
 
 fn answer(rt: &HostRuntime, line: &str) -> anyhow::Result<()> {
     let mut parts = line.split(' ');
     let code = parts.next().context("no code")?.parse::<u32>()?;
-    let operation = Operation::from_code(code).context("no operation")?;
-    let mut ticks = Vec::new(rt.alloc());
-    for part in parts {
-        ticks.push(Ticks(part.parse::<i32>()?))?;
-    }
+    let operation = Operation::try_from(code).ok().context("no operation")?;
+    let ticks: Vec<Ticks> = parts
+        .map(|part| -> anyhow::Result<Ticks> { Ok(Ticks(part.parse::<i32>()?)) })
+        .try_collect(rt.alloc())?;
     match ticks.as_slice() {
-        [left, right] => show_tick(rt, Ticks::operate(operation, *left, *right)),
+        [left, right] => show(rt, Ticks::operate(operation, *left, *right)),
         [a, b, c, d] => {
             let left = Bands::between(*a, *b);
             let right = Bands::between(*c, *d);
-            show_band(rt, Bands::operate(operation, left, right))
+            show(rt, Bands::operate(operation, left, right).map(BothEnds))
         }
         _ => Err(anyhow!("neither two ticks nor four ends")),
     }
 }
 
-fn show_tick(rt: &HostRuntime, outcome: Result<Ticks, FigureFault>) -> anyhow::Result<()> {
-    match outcome {
-        Ok(Ticks(tick)) => println!(rt; "{tick}")?,
-        Err(fault) => show_fault(rt, fault)?,
+// A band, shown by its two ends with a blank between.
+#[derive(Clone, Copy)]
+struct BothEnds(Bands);
+
+impl fmt::Display for BothEnds {
+    ghost output = { λ band. Some (signed_decimal (low_end band.0) ++ (codes " " ++ signed_decimal (high_end band.0))) };
+
+    fn fmt<W: fmt::Write>(&self, f: &mut fmt::Formatter<W>) -> fmt::Result {
+        let low = self.0.low();
+        let high = self.0.high();
+        write!(f, "{low} {high}")
     }
-    Ok(())
 }
 
-fn show_band(rt: &HostRuntime, outcome: Result<Bands, FigureFault>) -> anyhow::Result<()> {
+fn show<F: fmt::Display + Drop>(
+    rt: &HostRuntime,
+    outcome: Result<F, FigureFault>,
+) -> anyhow::Result<()> {
     match outcome {
-        Ok(band) => {
-            let low = band.low().0;
-            let high = band.high().0;
-            println!(rt; "{low} {high}")?
-        }
-        Err(fault) => show_fault(rt, fault)?,
-    }
-    Ok(())
-}
-
-fn show_fault(rt: &HostRuntime, fault: FigureFault) -> anyhow::Result<()> {
-    let number = fault.number();
-    println!(rt; "fault {number}")?;
-    Ok(())
-}
-
-fn run(rt: &HostRuntime) -> anyhow::Result<()> {
-    for line in rt.lines(rt.alloc()) {
-        answer(rt, line?.as_str())?;
+        Ok(figure) => println!(rt; "{figure}")?,
+        Err(fault) => println!(rt; "{fault}")?,
     }
     Ok(())
 }
 
 fn main(rt: HostRuntime) -> anyhow::Result<()> {
-    run(&rt)
+    for line in rt.lines(rt.alloc()) {
+        answer(&rt, line?.as_str())?;
+    }
+    Ok(())
 }

@@ -1,4 +1,3 @@
 pub mod Ages
-pub mod Parts
 pub mod Shares
 pub mod Writing

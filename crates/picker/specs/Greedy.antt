@@ -1,7 +1,7 @@
 -- The greedy rule: what a picker is asked, which choices keep the rule, and what its list holds afterwards. Assumes nothing.
 use Rattle.std.specs.Prelude.{◌≡◌, ℕ, ◌<◌, ◌≤◌, min, ◌≢◌, List, ◌++◌, length, take, drop, slice_index}
 use Rattle.std.specs.List.Sorted.{IsStrictlyIncreasing}
-use Rattle.std.specs.List.{ContainsAt as Has, AllByRecursion}
+use Rattle.std.specs.List.{All, Contains}
 
 -- what a picker is asked: active threads, at least one, by their numbers in rising order, and 1 to 64 slots
 pub record Asked (q : ℕ) (shown : List ℕ) : Type 0 where
@@ -21,12 +21,12 @@ DuplicateFree xs = (i j : ℕ) → i < j → j < length xs → slice_index xs i 
 -- a duplicate-free choice of as many active threads as there are slots for
 pub record Greedy (q : ℕ) (active picks : List ℕ) : Type 0 where
   pub count : length picks ≡ share q active
-  pub members : AllByRecursion (Has active) picks
+  pub members : All (Contains active) picks
   pub distinct : DuplicateFree picks
 
 -- every active thread is picked
 abbrev pub AllPicked : List ℕ → List ℕ → Type 0
-AllPicked active picks = (thread : ℕ) → Has active thread → Has picks thread
+AllPicked active picks = (thread : ℕ) → Contains active thread → Contains picks thread
 
 -- numbers at the head of a list, and the rest of it as it was
 abbrev pub overlaid : List ℕ → List ℕ → List ℕ

@@ -1,12 +1,12 @@
 -- What the three pickers choose of numbers that rise: in words of an order, and as lists. Assumes nothing.
-use Rattle.std.specs.Prelude.{ℕ, ◌-◌, ◌<◌, ◌≤◌, Bool, cond, ◌⊎◌, List, ◌++◌, reverse, length, take, drop, Some, None, Option, ◌==◌, nat_le, slice_index}
-use Rattle.std.specs.List.{ContainsAt as Has, prefix_len}
-use Rattle.picker.specs.Greedy.{share}
+use Rattle.std.specs.Prelude.{◌≡◌, ℕ, min, ◌-◌, ◌<◌, ◌≤◌, Bool, ◌⊎◌, List, ◌++◌, reverse, length, take, drop, Some, None, Option, nat_le, slice_index}
+use Rattle.std.specs.List.{Contains, last_or, prefix_len}
+use Rattle.picker.specs.Greedy.{overlaid, share}
 
 -- the first in an order: they stand in it, and each comes before every active thread that is passed over
 pub record FirstBy (Before : ℕ → ℕ → Type 0) (active picks : List ℕ) : Type 0 where
   pub ordered : (i j : ℕ) → i < j → j < length picks → Before (slice_index picks i) (slice_index picks j)
-  pub first : (pick other : ℕ) → Has picks pick → Has active other → (Has picks other → ⊥) → Before pick other
+  pub first : (pick other : ℕ) → Contains picks pick → Contains active other → (Contains picks other → ⊥) → Before pick other
 
 abbrev pub Older : ℕ → ℕ → Type 0
 Older x y = x < y
@@ -45,4 +45,9 @@ in_turn last q shown = take (share q shown) (round_from last shown)
 
 -- the last of the picks, or the one before them where there are none
 abbrev pub last_pick : Option ℕ → List ℕ → Option ℕ
-last_pick before picks = cond (length picks == 0) before (Some (slice_index picks (length picks - 1)))
+last_pick before picks = last_or before picks
+
+-- the first numbers of an order, as many as there are slots and places for, stand at the head of a list that is otherwise as it was, and the last of them is known
+pub record FirstWritten (order : List ℕ) (q : ℕ) (list list' : List ℕ) (last : Option ℕ) : Type 0 where
+  pub written : list' ≡ overlaid (take (share (min q (length list)) order) order) list
+  pub told : last ≡ last_pick None (take (share (min q (length list)) order) order)

@@ -1,19 +1,21 @@
 -- A choice that is given by places of the shown numbers keeps the greedy rule. Assumes nothing.
 use Rattle.std.specs.Prelude.{◌≡◌, ℕ, ◌<◌, ◌≤◌, ◌≢◌, List, length, slice_index}
 use Rattle.std.proofs.Common.{sym, subst, ◌∙◌, ⊎_elim, arith}
-use Rattle.std.proofs.ByRecursion.{All-from_get_or, has_get_or}
+use Rattle.std.proofs.lemmas.List.Elements.{All-from_get_or, Contains-get_or}
 use Rattle.std.proofs.lemmas.Map.Keys.{below_from_sorted, sorted_from_strictly_increasing}
 use Rattle.std.proofs.lemmas.Bool.{cases_lt}
 use Rattle.std.specs.List.Sorted.{IsStrictlyIncreasing}
-use Rattle.std.specs.List.{ContainsAt as Has}
+use Rattle.std.specs.List.{Contains}
 use Rattle.picker.specs.Greedy.{Greedy, share}
 
--- numbers that rise differ at different places
+-- numbers that rise: one at a later place is above, and they differ at different places
+pub rising_above : (xs : List ℕ) → IsStrictlyIncreasing xs → (i j : ℕ) → i < j → j < length xs → slice_index xs i < slice_index xs j
+rising_above xs up i j lt h = below_from_sorted xs i j 0 (sorted_from_strictly_increasing xs up) lt h
+
 pub rising_apart : (xs : List ℕ) → IsStrictlyIncreasing xs → (i j : ℕ) → i < length xs → j < length xs → i ≢ j → slice_index xs i ≢ slice_index xs j
 rising_apart xs up i j hi hj ne same =
-    let sorted = sorted_from_strictly_increasing xs up in
-    ⊎_elim (λ (lt : i < j). omega (arith, below_from_sorted xs i j 0 sorted lt hj, same))
-    (λ (ge : j ≤ i). omega (arith, below_from_sorted xs j i 0 sorted (omega arith) hi, same))
+    ⊎_elim (λ (lt : i < j). omega (arith, rising_above xs up i j lt hj, same))
+    (λ (ge : j ≤ i). omega (arith, rising_above xs up j i (omega arith) hi, same))
     (cases_lt i j)
 
 -- the pick at k stands at a place of its own among the shown numbers
@@ -25,7 +27,7 @@ pub record Places (shown picks : List ℕ) (place : ℕ → ℕ) : Type 0 where
 pub greedy_by_places : (q : ℕ) (shown picks : List ℕ) (place : ℕ → ℕ) → IsStrictlyIncreasing shown → length picks ≡ share q shown → Places shown picks place → Greedy q shown picks
 greedy_by_places q shown picks place up count at = record {
   count = count;
-  members = All-from_get_or (Has shown) picks 0 (λ k h. subst (Has shown) (sym (at.stands k h)) (has_get_or shown (place k) 0 (at.within k h)));
+  members = All-from_get_or (Contains shown) picks 0 (λ k h. subst (Contains shown) (sym (at.stands k h)) (Contains-get_or shown (place k) 0 (at.within k h)));
   distinct = λ i j lt h same.
       let hi : i < length picks = omega arith in
       rising_apart shown up (place i) (place j) (at.within i hi) (at.within j h) (at.apart i j lt h) (sym (at.stands i hi) ∙ same ∙ at.stands j h);

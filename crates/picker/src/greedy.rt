@@ -7,14 +7,15 @@ use crate::picker::Picker;
 // Has the picker write its picks at the head of the list, and says how many are due.
 pub fn pick_greedily<P: Picker>(picker: &mut P, shown: &[u32], q: usize, list: &mut [u32]) -> usize
     ensures count { result ≡ share q shown.now }
-    ensures picks { PicksGreedily P.Picker.chooses picker.old picker.new shown.now q list.old list.new }
+    ensures picks { PicksGreedily P.chooses picker.old picker.new shown.now q list.old list.new }
 {
     ask(picker, shown, q, list);
     q.min(shown.len())
 }
 
+// These four go together by the project's rule: the numbers shown and the list are the step's, which lends them as slices of u32.
 fn ask<P: Picker>(picker: &mut P, shown: &[u32], q: usize, list: &mut [u32])
-    ensures { PicksGreedily P.Picker.chooses picker.old picker.new shown.now q list.old list.new }
+    ensures { PicksGreedily P.chooses picker.old picker.new shown.now q list.old list.new }
 {
     picker.pick(shown, q, list);
 }

@@ -5,6 +5,7 @@ mod greedy;
 mod oldest;
 mod picker;
 mod turn;
+mod write;
 mod youngest;
 
 pub use greedy::pick_greedily;

@@ -5,6 +5,7 @@ ghost use Rattle.picker.specs.Orders.{FirstBy, Older, lowest};
 ghost use Rattle.picker.specs.GreedyChoices.{lowest_greedy};
 
 use crate::picker::Picker;
+use crate::write::write_first;
 
 #[derive(Clone, Copy)]
 pub struct Oldest;
@@ -17,7 +18,6 @@ impl Picker for Oldest {
     fn pick(&mut self, shown: &[u32], q: usize, list: &mut [u32])
         ensures { list.new ≡ overlaid (lowest (min q (length list.old)) shown.now) list.old }
     {
-        let count = q.min(list.len()).min(shown.len());
-        list[0..count].copy_from_slice(&shown[0..count]);
+        write_first(shown.iter(), q, list);
     }
 }

@@ -6,7 +6,7 @@ pub trait Picker {
     // What it chooses. Code above pickers speaks of the picks through this member alone.
     ghost chooses: { Choice Self };
 
-    // Writes its picks at the head of the list.
+    // Writes its picks at the head of the list. The step lends the numbers and the list, so both are slices of u32 and not a type of the picker's.
     fn pick(&mut self, shown: &[u32], q: usize, list: &mut [u32])
         ensures { Picks chooses self.old self.new shown.now q list.old list.new };
 

@@ -6,6 +6,7 @@ ghost use Rattle.picker.specs.Orders.{FirstBy, Sooner, behind, had_turn, in_turn
 ghost use Rattle.picker.specs.GreedyChoices.{in_turn_greedy};
 
 use crate::picker::Picker;
+use crate::write::write_first;
 
 #[derive(Clone, Copy)]
 pub struct Turn {
@@ -32,52 +33,12 @@ impl Turn {
     }
 }
 
-fn had_turn(number: u32, last: u32) -> bool
-    ensures { result ≡ had_turn last number }
-{
-    number <= last
-}
-
 // How many numbers stand at the head that had their turn.
 fn up_to(last: u32, numbers: &[u32]) -> usize
     ensures count { result ≡ prefix_len (had_turn last) numbers.now }
     ensures within { result ≤ length numbers.now }
 {
-    for (place, number) in numbers.iter().enumerate() {
-        if !had_turn(*number, last) {
-            return place;
-        }
-    }
-    numbers.len()
-}
-
-// The last of the picks, or the one before them where there are none.
-fn last_pick(before: Option<u32>, picks: &[u32]) -> Option<u32>
-    ensures { result ≡ last_pick before picks.now }
-{
-    match picks {
-        [.., last] => Some(*last),
-        [] => before,
-    }
-}
-
-// Writes the first numbers of two slices, one after the other, and gives the last pick.
-fn write_both(
-    list: &mut [u32],
-    count: usize,
-    first: &[u32],
-    second: &[u32],
-    before: Option<u32>,
-) -> Option<u32>
-    requires { count ≤ length list.old }
-    ensures written { list.new ≡ overlaid (take count (first.now ++ second.now)) list.old }
-    ensures last { result ≡ last_pick before (take count (first.now ++ second.now)) }
-{
-    let of_first = count.min(first.len());
-    let end = of_first + (count - of_first).min(second.len());
-    list[0..of_first].copy_from_slice(&first[0..of_first]);
-    list[of_first..end].copy_from_slice(&second[0..end - of_first]);
-    last_pick(before, &list[0..end])
+    numbers.iter().take_while(|number| **number <= last).count()
 }
 
 impl Picker for Turn {
@@ -89,8 +50,8 @@ impl Picker for Turn {
         ensures written { list.new ≡ overlaid (in_turn self.old.last (min q (length list.old)) shown.now) list.old }
         ensures left { self.new.last ≡ last_pick self.old.last (in_turn self.old.last (min q (length list.old)) shown.now) }
     {
-        let count = q.min(list.len()).min(shown.len());
         let (passed, ahead) = shown.split_at(self.passed(shown));
-        self.last = write_both(list, count, ahead, passed, self.last);
+        let last = write_first(ahead.iter().chain(passed), q, list);
+        self.last = last.or(self.last);
     }
 }

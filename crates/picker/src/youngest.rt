@@ -5,6 +5,7 @@ ghost use Rattle.picker.specs.Orders.{FirstBy, Younger, highest};
 ghost use Rattle.picker.specs.GreedyChoices.{highest_greedy};
 
 use crate::picker::Picker;
+use crate::write::write_first;
 
 #[derive(Clone, Copy)]
 pub struct Youngest;
@@ -17,10 +18,6 @@ impl Picker for Youngest {
     fn pick(&mut self, shown: &[u32], q: usize, list: &mut [u32])
         ensures { list.new ≡ overlaid (highest (min q (length list.old)) shown.now) list.old }
     {
-        let count = q.min(list.len()).min(shown.len());
-        let (_, youngest) = shown.split_at(shown.len() - count);
-        let picks = &mut list[0..count];
-        picks.copy_from_slice(youngest);
-        picks.reverse();
+        write_first(shown.iter().rev(), q, list);
     }
 }

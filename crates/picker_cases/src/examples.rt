@@ -4,6 +4,7 @@ ghost use Rattle.picker.specs.Greedy.{AllPicked};
 
 use picker::{Oldest, Picker, Turn, Youngest, pick_greedily};
 
+// Two functions, since the picks that each is proved to write are what the examples are for.
 pub(crate) fn three_oldest() -> [u32; 4]
     ensures { result ≡ 2 ∷ 5 ∷ 7 ∷ 0 ∷ [] }
 {

@@ -9,10 +9,9 @@ use picker::{Oldest, Picker, Turn, Youngest, pick_greedily};
 
 // A list of so many places that holds 1000, 1001 and so on.
 fn list_of(rt: &HostRuntime, places: u32) -> anyhow::Result<Vec<u32>> {
-    let mut list = Vec::new(rt.alloc());
-    for place in 0..places {
-        list.push(place.saturating_add(1000))?;
-    }
+    let list = (0..places)
+        .map(|place| place.saturating_add(1000))
+        .collect(rt.alloc())?;
     Ok(list)
 }
 
@@ -48,37 +47,34 @@ fn show_examples(rt: &HostRuntime) -> anyhow::Result<()> {
     tell(rt, &three_of_three(&mut Youngest))
 }
 
+fn number(part: &str) -> anyhow::Result<u32> {
+    Ok(part.parse()?)
+}
+
 fn answer(rt: &HostRuntime, turn: &mut Turn, line: &str) -> anyhow::Result<()> {
     let mut parts = line.split(' ');
     let name = parts.next().context("no name")?;
     let q = parts.next().context("no q")?.parse::<usize>()?;
     let places = parts.next().context("no places")?.parse::<u32>()?;
-    let mut shown = Vec::new(rt.alloc());
-    for part in parts {
-        shown.push(part.parse::<u32>()?)?;
-    }
+    let shown = parts.map(number).try_collect::<Vec<u32>>(rt.alloc())?;
     let mut list = list_of(rt, places)?;
+    if name == "new" {
+        *turn = Turn::new();
+    }
+    // Each arm has a picker of its own type: a `dyn Picker` cannot be passed for the bound of `pick_greedily`.
     match name {
         "oldest" => show(rt, &mut Oldest, &shown, q, &mut list),
         "youngest" => show(rt, &mut Youngest, &shown, q, &mut list),
-        "turn" => show(rt, turn, &shown, q, &mut list),
-        "new" => {
-            *turn = Turn::new();
-            show(rt, turn, &shown, q, &mut list)
-        }
+        "turn" | "new" => show(rt, turn, &shown, q, &mut list),
         _ => Err(anyhow!("no such picker")),
     }
 }
 
-fn run(rt: &HostRuntime) -> anyhow::Result<()> {
-    show_examples(rt)?;
+fn main(rt: HostRuntime) -> anyhow::Result<()> {
+    show_examples(&rt)?;
     let mut turn = Turn::new();
     for line in rt.lines(rt.alloc()) {
-        answer(rt, &mut turn, line?.as_str())?;
+        answer(&rt, &mut turn, line?.as_str())?;
     }
     Ok(())
-}
-
-fn main(rt: HostRuntime) -> anyhow::Result<()> {
-    run(&rt)
 }

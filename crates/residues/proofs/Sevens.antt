@@ -28,7 +28,7 @@ abbrev make : (n : ℕ) → n < 7 → Residues
 make n h = record { value = n; below = h }
 
 -- residues are equal where their numbers are
-pub same : (m n : ℕ) (p : m < 7) (q : n < 7) → m ≡ n → make m p ≡ make n q
+same : (m n : ℕ) (p : m < 7) (q : n < 7) → m ≡ n → make m p ≡ make n q
 same m n p q e =
     subst (λ (k : ℕ). (h : k < 7) → make m p ≡ make k h) e (λ h. ap (make m) (le_prop p h)) q
 

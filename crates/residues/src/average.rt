@@ -7,7 +7,7 @@ use formula::Operation;
 
 // (a + b) div 2, where both steps have a figure.
 pub(crate) fn average<F: Figure>(a: F, b: F) -> Result<F, FigureFault>
-    ensures { result ≡ average_of F.Figure.number F.Figure.outcome a b }
+    ensures { result ≡ average_of F.number F.outcome a b }
 {
     let sum = F::operate(Operation::Add, a, b)?;
     F::operate(Operation::Div, sum, F::number(2))

@@ -9,6 +9,7 @@ use figure::{Figure, FigureFault};
 use formula::Operation;
 
 // (a mul b) div b, which is a again unless b is zero.
+#[tactic(auto, using(crate::proofs::Sevens::div_undoes_mul))]
 pub(crate) fn back_again(a: Residues, b: Residues) -> Result<Residues, FigureFault>
     ensures meant { result ≡ and_then (residue_outcome Mul a b) (λ product. residue_outcome Div product b) }
     ensures undone { b.value ≢ 0 → result ≡ Ok a }
