@@ -1,5 +1,5 @@
 -- What a word's checks say of the places that it names, and of the refusal that they give. Assumes nothing.
-use Rattle.std.proofs.Common.{◌≡◌, ℕ, ◌≤◌, Bool, true, false, if◌then◌else◌, List, length, is_some, Some, None, Ok, Err, Option, Result, refl, subst, arith}
+use Rattle.std.proofs.Common.{◌≡◌, ℕ, ◌≤◌, Bool, true, false, if◌then◌else◌, List, length, Some, None, Ok, Err, Option, Result, refl, subst, arith}
 use Rattle.formula.specs.Admission.{Answers, FirstBad, Refused, Sized, all_below, counted_by, input_known, shape_refusal, word_refusal}
 use Rattle.formula.specs.Binders.{named_places}
 use Rattle.formula.specs.Words.{shape_at}
@@ -26,12 +26,12 @@ of_shape : (inputs : ℕ) (shape : Option Word) (place : ℕ) (why : Refusal) �
 of_shape inputs None place why h = let e : BadLeaf place ≡ why = cc in subst (OfWord place) e leaf
 of_shape inputs (Some word) place why h = some_check place (all_below place (named_places word)) (input_known inputs word) why h
 
-checked_below : (place : ℕ) (b i : Bool) → is_some (checked place b i) ≡ false → b ≡ true
+checked_below : (place : ℕ) (b i : Bool) → checked place b i ≡ None → b ≡ true
 checked_below place true i h = refl
 checked_below place false i h = cc
 
 -- a word that passes its checks names places below its own
-pub names_below : (inputs : ℕ) (word : Word) (place : ℕ) → is_some (word_refusal inputs word place) ≡ false → all_below place (named_places word) ≡ true
+pub names_below : (inputs : ℕ) (word : Word) (place : ℕ) → word_refusal inputs word place ≡ None → all_below place (named_places word) ≡ true
 names_below inputs word place = checked_below place (all_below place (named_places word)) (input_known inputs word)
 
 -- the first bad word is refused by the check that it fails, with the counts before it written

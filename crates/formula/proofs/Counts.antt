@@ -1,5 +1,5 @@
 -- The binder counts of places whose words pass their checks. Assumes nothing.
-use Rattle.std.proofs.Common.{◌≡◌, ℕ, zero, suc, ◌+◌, ◌-◌, ◌<◌, true, false, ◌≢◌, List, length, get_or, set, is_some, Some, None, Option, sym, refl, ap, ◌∙◌, arith, get_or-set_other, get_or-set_same, below_more}
+use Rattle.std.proofs.Common.{◌≡◌, ℕ, zero, suc, ◌+◌, ◌-◌, ◌<◌, true, ◌≢◌, List, length, get_or, set, Some, None, Option, sym, refl, ap, ◌∙◌, arith, get_or-set_other, get_or-set_same, below_more}
 use Rattle.std.proofs.lemmas.Bool.Decides.{nat_tests}
 use Rattle.formula.specs.Admission.{Counted, GoodBefore, all_below, shape_refusal}
 use Rattle.formula.specs.Binders.{binders, binders_of, binders_within, named_places, shape_binders}
@@ -21,7 +21,7 @@ same_count (Application function argument) place f g below same =
     cc
 
 -- the same of a shape that passes its checks
-shape_count : (inputs : ℕ) (shape : Option Word) (place : ℕ) (f g : ℕ → ℕ) → is_some (shape_refusal inputs shape place) ≡ false → ((p : ℕ) → p < place → f p ≡ g p) → shape_binders shape f ≡ shape_binders shape g
+shape_count : (inputs : ℕ) (shape : Option Word) (place : ℕ) (f g : ℕ → ℕ) → shape_refusal inputs shape place ≡ None → ((p : ℕ) → p < place → f p ≡ g p) → shape_binders shape f ≡ shape_binders shape g
 shape_count inputs None place f g good same = refl
 shape_count inputs (Some word) place f g good same = same_count word place f g (names_below inputs word place good) same
 
@@ -40,8 +40,8 @@ count_by_named inputs words place good =
     (λ p below. more_turns inputs words place (suc p) p below (omega arith) (λ q under. good q (omega arith)))
 
 -- a loop's step: one word more passes its checks
-pub good_more : (inputs : ℕ) (words : List ℕ) (place : ℕ) → GoodBefore inputs words place → is_some (shape_refusal inputs (shape_at words place) place) ≡ false → GoodBefore inputs words (place + 1)
-good_more inputs words place good here = below_more (λ p. is_some (shape_refusal inputs (shape_at words p) p) ≡ false) place good here
+pub good_more : (inputs : ℕ) (words : List ℕ) (place : ℕ) → GoodBefore inputs words place → shape_refusal inputs (shape_at words place) place ≡ None → GoodBefore inputs words (place + 1)
+good_more inputs words place good here = below_more (λ p. shape_refusal inputs (shape_at words p) p ≡ None) place good here
 
 -- counts that are written as the definition has them follow from the counts of named places
 by_named : (inputs : ℕ) (words table : List ℕ) (many : ℕ) → GoodBefore inputs words many → ((p : ℕ) → p < many → get_or table p 0 ≡ binders words p) → (place : ℕ) → place < many → get_or table place 0 ≡ shape_binders (shape_at words place) (λ p. get_or table p 0)

@@ -1,5 +1,5 @@
 -- Which tables of words are formulas, and what admission answers and writes. Assumes nothing.
-use Rattle.std.specs.Prelude.{◌≡◌, ℕ, ◌<◌, ◌≤◌, Bool, true, false, if◌then◌else◌, ◌&&◌, List, [], ◌∷◌, length, is_some, Some, None, Ok, Err, Option, Result, nat_lt, slice_index}
+use Rattle.std.specs.Prelude.{◌≡◌, ℕ, ◌<◌, ◌≤◌, Bool, true, if◌then◌else◌, ◌&&◌, List, [], ◌∷◌, length, Some, None, Ok, Err, Option, Result, nat_lt, slice_index}
 use Rattle.formula.specs.declared.refusal.Refusal.{Refusal}
 use Rattle.formula.specs.declared.refusal.Refusal.TheVariants.{WordCount, ShortTable, BadLeaf, PlaceNotBelow, NoSuchInput, NotClosed}
 use Rattle.formula.specs.declared.word.Word.{Word}
@@ -34,7 +34,7 @@ Sized words = (0 < length words) × (length words ≤ 32768)
 
 -- the words before a place pass their checks
 abbrev pub GoodBefore : ℕ → List ℕ → ℕ → Type 0
-GoodBefore inputs words end = (place : ℕ) → place < end → is_some (shape_refusal inputs (shape_at words place) place) ≡ false
+GoodBefore inputs words end = (place : ℕ) → place < end → shape_refusal inputs (shape_at words place) place ≡ None
 
 -- the words are a formula of so many inputs
 pub record Admitted (inputs : ℕ) (words : List ℕ) : Type 0 where

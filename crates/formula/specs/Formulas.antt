@@ -1,5 +1,5 @@
 -- What a formula holds, and what admission leaves in the host's formula. Assumes nothing.
-use Rattle.std.specs.Prelude.{◌≡◌, ℕ, ◌<◌, ◌≤◌, false, List, length, is_some, Some, None, Ok, Err, Option, Result}
+use Rattle.std.specs.Prelude.{◌≡◌, ℕ, ◌<◌, ◌≤◌, List, length, Some, None, Ok, Err, Option, Result}
 use Rattle.formula.specs.declared.admitted.Formula.{Formula}
 use Rattle.formula.specs.declared.refusal.Refusal.{Refusal}
 use Rattle.formula.specs.declared.word.Word.{Word}
@@ -20,7 +20,7 @@ Holds words inputs formula = (words_of formula ≡ words) × (inputs_of formula 
 abbrev pub WordAt : Formula → ℕ → Option Word → Type 0
 WordAt formula place None = length (words_of formula) ≤ place
 WordAt formula place (Some word) =
-    (place < length (words_of formula)) × (shape_at (words_of formula) place ≡ Some word) × (is_some (word_refusal (inputs_of formula) word place) ≡ false)
+    (place < length (words_of formula)) × (shape_at (words_of formula) place ≡ Some word) × (word_refusal (inputs_of formula) word place ≡ None)
 
 -- admission fills the formula, and a refusal leaves it as it was
 abbrev pub Filled : List ℕ → ℕ → Formula → Formula → Result (Unit {0}) Refusal → Type 0

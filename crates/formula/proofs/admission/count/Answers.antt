@@ -1,4 +1,4 @@
-use Rattle.std.proofs.Common.{ℕ, ◌+◌, List, is_some, sym, ap, subst, arith}
+use Rattle.std.proofs.Common.{ℕ, ◌+◌, List, sym, subst, arith}
 use Rattle.std.proofs.lemmas.Result.{err_from_is_err_and}
 use Rattle.formula.specs.Admission.{Counted, FirstBad}
 use Rattle.formula.proofs.Counts.{counted_more, good_more}
@@ -26,6 +26,6 @@ loop-place-preserved c =
     let work = c.loop-place.work in
     let place = c.loop-place.place in
     let told = c.in_ok-count_word.ensures in
-    let good = good_more inputs words place c.loop-place.invariant.0 (ap is_some (sym told.answer)) in
+    let good = good_more inputs words place c.loop-place.invariant.0 (sym told.answer) in
     let counted = counted_more inputs words before work place good (omega arith) c.loop-place.invariant.1 in
     (good, subst (λ (work : List ℕ). Counted words (place + 1) before work) (sym told.count) counted)
