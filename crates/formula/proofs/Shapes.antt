@@ -5,11 +5,11 @@ use Rattle.formula.specs.declared.operation.Operation.{Operation}
 use Rattle.formula.specs.declared.word.Word.{Word}
 use Rattle.formula.specs.declared.word.Word.TheVariants.{Number, Variable, Operation as Op, Input, Abstraction, Application}
 use Rattle.formula.specs.Operations.{operation_of}
-use Rattle.formula.specs.Words.{Decoded, allowed, bit_field, index_of, kind_shape, leaf_shape, shape}
+use Rattle.formula.specs.Words.{Decoded, decoded_word, bit_field, index_of, kind_shape, leaf_shape, shape}
 use Rattle.std.specs.Option.{option_map}
 
 record Small (shape : Option Word) : Type 0 where
-  index : IfOk (allowed shape) (λ word. index_of word < 2 ^ 28)
+  index : IfOk (decoded_word shape) (λ word. index_of word < 2 ^ 28)
 
 either : (b : Bool) (x y : Option Word) → Small x → Small y → Small (if b then x else y)
 either true x y p q = p
@@ -36,6 +36,6 @@ kind_small kind word =
     (either (kind == 1) _ _ (leaf_small (bit_field word 28 2) (bit_field word 0 28) (mod_below (word / 2 ^ 0) (2 ^ 28) (pow_pos 28)))
     (either (kind == 2) _ _ (leaf (Abstraction _) (omega arith)) (leaf (Application _ _) (omega arith))))
 
-pub shape_decoded : (word : ℕ) → Decoded word (allowed (shape word))
+pub shape_decoded : (word : ℕ) → Decoded word (decoded_word (shape word))
 unfolding shape
 shape_decoded word = record { is_shape = refl; index = (kind_small (bit_field word 30 2) word).index }

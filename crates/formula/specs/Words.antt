@@ -46,10 +46,10 @@ index_of (Abstraction body) = 0
 index_of (Application function argument) = 0
 
 -- a shape, or that there is none
-abbrev pub allowed : Option Word → Result Word NotAllowed
-allowed shape = ok_or shape (record {})
+abbrev pub decoded_word : Option Word → Result Word NotAllowed
+decoded_word shape = ok_or shape (record {})
 
 -- what decoding answers: the word's shape, whose index has 28 bits
 pub record Decoded (word : ℕ) (result : Result Word NotAllowed) : Type 0 where
-  pub is_shape : result ≡ allowed (shape word)
-  pub index : IfOk result (λ decoded. index_of decoded < 2 ^ 28)
+  pub is_shape : result ≡ decoded_word (shape word)
+  pub index : IfOk result (λ shape. index_of shape < 2 ^ 28)
