@@ -1,8 +1,7 @@
 -- From what a picker wrote to what the rule says of its list. Assumes nothing.
-use Rattle.std.proofs.lemmas.Grind.{common_steps}
-use Rattle.std.proofs.lemmas.Bool.Decides.{nat_tests}
 use Rattle.std.proofs.Common.{◌≡◌, ℕ, ◌+◌, ◌-◌, ◌<◌, ◌≤◌, min, List, [], ◌∷◌, ◌++◌, length, get_or, take, drop, set, map, Option, Some, None, Bor, refl, sym, ap, ap₂, ◌∙◌, subst, arith}
-use Rattle.std.proofs.lemmas.List.{append_assoc, length-append, drop_at, drop_more, ext_get_or, get_or-drop, length-drop, length-take-le, map-append, set_at, take_at, take_min, take_more}
+use Rattle.std.proofs.lemmas.List.{append_assoc, drop_at, drop_more, ext_get_or, get_or-drop, length-append, length-drop, length-take-le, map-append, set_at, take_at, take_min, take_more}
+use Rattle.std.proofs.lemmas.Grind.{common_steps}
 use Rattle.std.proofs.lemmas.Iterator.{YieldsList, YieldsList-from_take}
 use Rattle.std.proofs.lemmas.Iterator.Consumers.{YieldsList-end, YieldsList-from_enumerate}
 use Rattle.std.specs.Iterator.{Yields}
@@ -11,8 +10,8 @@ use Rattle.std.specs.declared.iter.Enumerate.{Enumerate}
 use Rattle.std.specs.declared.iter.Take.{Take}
 use Rattle.std.specs.List.{enumerate_from}
 use Rattle.std.specs.Option.{option_or}
-use Rattle.picker.specs.Orders.{last_pick}
 use Rattle.picker.specs.Greedy.{Asked, Choice, Picks, Picked, overlaid, share}
+use Rattle.picker.specs.Orders.{last_pick}
 
 module _ {S : Type 0} (chooses : Choice S) (before after : S) (shown : List ℕ) (q : ℕ) (list list' : List ℕ) where
   pub picked_from_overlaid : (picks : List ℕ) → list' ≡ overlaid picks list → length picks ≡ share q shown → chooses before shown q picks after → Picked chooses before after shown q list list'
@@ -36,7 +35,7 @@ module _ {S : Type 0} (chooses : Choice S) (before after : S) (shown : List ℕ)
 
   -- a picker that fills what room there is
   pub picks_from_overlaid : (pick : ℕ → List ℕ) → list' ≡ overlaid (pick (min q (length list))) list → length (pick q) ≡ share q shown → (Asked q shown → min q (length list) ≡ q → chooses before shown q (pick q) after) → Picks chooses before after shown q list list'
-  picks_from_overlaid pick is count chosen asked room = grind (arith, common_steps, nat_tests)
+  picks_from_overlaid pick is count chosen asked room = grind (arith, common_steps)
 
 -- one number more, as a loop writes it
 pub overlaid_push : (numbers list : List ℕ) (k x : ℕ) → k ≡ length numbers → length numbers < length list → set (overlaid numbers list) k x ≡ overlaid (numbers ++ (x ∷ [])) list
@@ -64,7 +63,7 @@ abbrev pub read : List (ℕ × Bor ℕ) → List ℕ
 read turns = map (λ turn. turn.1.now) turns
 
 pub length-read : (turns : List (ℕ × Bor ℕ)) (place : ℕ) (number : Bor ℕ) → length (read (turns ++ ((place, number) ∷ []))) ≡ length (read turns) + 1
-length-read turns place number = grind (arith, common_steps, nat_tests)
+length-read turns place number = grind (arith, common_steps)
 
 -- after so many turns of a loop over `numbers.take(n).enumerate()`, which writes each number at its place of the list
 pub record WrittenSoFar {S : Type 0} (turns : List (ℕ × Bor ℕ)) (iterator : Enumerate (Take S)) (list now : List ℕ) : Type 0 where

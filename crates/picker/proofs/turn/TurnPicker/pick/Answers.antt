@@ -11,7 +11,7 @@ use Rattle.picker.proofs.turn.TurnPicker.pick.Goals as goal
 
 pub returns : goal.returns
 returns c =
-    let last = c.args.self.now.last in
+    let last = c.args.self.now in
     let list = c.args.list.now in
     let shown = c.args.shown.now in
     let ahead : iter_rest c.chain.result.a ≡ drop (behind last shown) shown = cc in
@@ -21,5 +21,5 @@ returns c =
     let picks = in_turn_is last room shown in
     record {
       written = first.written ∙ ap (λ (xs : List ℕ). overlaid xs list) picks;
-      left = c.or-self.ensures ∙ ap (λ (told : Option ℕ). option_or told last) (first.told ∙ ap (last_pick None) picks) ∙ last_pick_or last (in_turn last room shown);
+      left = c.or-self-inside.ensures ∙ ap (option_or c.write_first-last.result) c.self.view_is ∙ ap (λ (told : Option ℕ). option_or told last) (first.told ∙ ap (last_pick None) picks) ∙ last_pick_or last (in_turn last room shown);
     }
