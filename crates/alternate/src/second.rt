@@ -9,6 +9,21 @@ use picker::Picker;
 #[derive(Clone, Copy)]
 pub struct Alternate;
 
+// Writes the picks at the head of the list, as many as there are slots and places for.
+fn write_alternate(shown: &[u32], q: usize, list: &mut [u32])
+    ensures { list.new ≡ overlaid (alternate (min q (length list.old)) shown.now) list.old }
+{
+    let firsts = shown.iter().step_by(2);
+    let passed_over = shown.iter().skip(1).step_by(2);
+    for (place, number) in firsts
+        .chain(passed_over)
+        .take(q.min(list.len()))
+        .enumerate()
+    {
+        list[place] = *number;
+    }
+}
+
 impl Picker for Alternate {
     ghost chooses = { λ _ shown q picks _. picks ≡ alternate q shown };
 
@@ -17,14 +32,6 @@ impl Picker for Alternate {
     fn pick(&mut self, shown: &[u32], q: usize, list: &mut [u32])
         ensures { list.new ≡ overlaid (alternate (min q (length list.old)) shown.now) list.old }
     {
-        let firsts = shown.iter().step_by(2);
-        let passed_over = shown.iter().skip(1).step_by(2);
-        for (place, number) in firsts
-            .chain(passed_over)
-            .take(q.min(list.len()))
-            .enumerate()
-        {
-            list[place] = *number;
-        }
+        write_alternate(shown, q, list);
     }
 }

@@ -1,3 +1,4 @@
 pub mod Ages
 pub mod Shares
 pub mod Writing
+mod Sources

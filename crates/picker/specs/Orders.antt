@@ -1,6 +1,8 @@
 -- What the three pickers choose of numbers that rise: in words of an order, and as lists. Assumes nothing.
 use Rattle.std.specs.Prelude.{◌≡◌, ℕ, min, ◌-◌, ◌<◌, ◌≤◌, Bool, ◌⊎◌, List, ◌++◌, reverse, length, take, drop, Some, None, Option, nat_le, slice_index}
 use Rattle.std.specs.List.{Contains, last_or, prefix_len}
+use Rattle.std.specs.Iterator.{AlwaysYields}
+use Rattle.std.specs.Borrow.{Bor}
 use Rattle.picker.specs.Greedy.{overlaid, share}
 
 -- the first in an order: they stand in it, and each comes before every active thread that is passed over
@@ -51,3 +53,7 @@ last_pick before picks = last_or before picks
 pub record FirstWritten (order : List ℕ) (q : ℕ) (list list' : List ℕ) (last : Option ℕ) : Type 0 where
   pub written : list' ≡ overlaid (take (share (min q (length list)) order) order) list
   pub told : last ≡ last_pick None (take (share (min q (length list)) order) order)
+
+-- the same of an iterator, whichever numbers it gives
+pub record WrittenFrom {S : Type 0} (steps : S → Option (Bor ℕ) → S → Type 0) (numbers : S) (q : ℕ) (list list' : List ℕ) (last : Option ℕ) : Type 0 where
+  pub gives : (order : List ℕ) → AlwaysYields steps (λ number. number.now) numbers order → FirstWritten order q list list' last

@@ -15,6 +15,7 @@ impl Picker for Oldest {
 
     ghost greedy = { λ before shown q picks after asked chosen. lowest_greedy q shown picks asked.rising chosen.0 };
 
+    #[tactic(auto, using(crate::proofs::Sources::lowest_written))]
     fn pick(&mut self, shown: &[u32], q: usize, list: &mut [u32])
         ensures { list.new ≡ overlaid (lowest (min q (length list.old)) shown.now) list.old }
     {

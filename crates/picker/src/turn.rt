@@ -58,6 +58,7 @@ impl Picker for Turn {
 
     ghost greedy = { λ before shown q picks after asked chosen. in_turn_greedy before q shown picks asked.rising chosen.0 };
 
+    #[tactic(auto, using(crate::proofs::Sources::in_turn_written, crate::proofs::Sources::in_turn_told))]
     fn pick(&mut self, shown: &[u32], q: usize, list: &mut [u32])
         ensures written { list.new ≡ overlaid (in_turn self.old (min q (length list.old)) shown.now) list.old }
         ensures left { self.new ≡ last_pick self.old (in_turn self.old (min q (length list.old)) shown.now) }

@@ -1,7 +1,5 @@
 // Writing picks: the first of some numbers, which a picker has put in its order.
-ghost use Rattle.std.specs.Prelude.{List, ℕ};
-ghost use Rattle.std.specs.Iterator.{AlwaysYields};
-ghost use Rattle.picker.specs.Orders.{FirstWritten};
+ghost use Rattle.picker.specs.Orders.{WrittenFrom};
 
 // Writes the first `q` numbers at the head of the list, or as many as there are, or as it has places for, and gives the last that it wrote.
 // It stays in this crate, since a function over any iterator has a `requires`, and no public function has one.
@@ -11,7 +9,7 @@ pub(crate) fn write_first<'a, I: Iterator<Item = &'a u32> + Drop>(
     list: &mut [u32],
 ) -> Option<u32>
     requires { I.can_next numbers }
-    ensures { (order : List ℕ) → AlwaysYields I.next_gives (λ number. number.now) numbers order → FirstWritten order q list.old list.new result }
+    ensures { WrittenFrom I.next_gives numbers q list.old list.new result }
 {
     let mut last = None;
     for (place, number) in numbers.take(q.min(list.len())).enumerate() {

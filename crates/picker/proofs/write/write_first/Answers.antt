@@ -17,7 +17,7 @@ loop-place-preserved g c =
     }
 
 pub returns : goal.returns
-returns g c order yields =
+returns g c = record { gives = λ order yields.
     let room = min c.args.q (length c.args.list.now) in
     let iterator = c.into_iter-place-iterator.result in
     let source : iterator.iter.iter ≡ c.args.numbers = cc in
@@ -28,4 +28,4 @@ returns g c order yields =
     record {
       written = c.loop-place.invariant.so_far.written ∙ ap (λ (numbers : List ℕ). overlaid numbers c.args.list.now) came;
       told = c.loop-place.invariant.last ∙ ap (last_pick None) came;
-    }
+    } }

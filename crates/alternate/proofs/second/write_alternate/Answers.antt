@@ -8,7 +8,7 @@ use Rattle.picker.proofs.Writing.{read_all, written_more}
 use Rattle.alternate.specs.Alternation.{length-order}
 use Rattle.alternate.specs.Meaning.{order}
 use Rattle.alternate.proofs.Stepping.{every_second}
-use Rattle.alternate.proofs.second.AlternatePicker.pick.Goals as goal
+use Rattle.alternate.proofs.second.write_alternate.Goals as goal
 
 pub loop-place-preserved : goal.loop-place-preserved
 loop-place-preserved c =
