@@ -1,5 +1,5 @@
 -- Ends that are in range make a band of just these ends.
-use Rattle.std.proofs.Common.{◌≡◌, Bool, true, false, cond, ◌&&◌, Ok, Err, Result, refl, ap, ◌∙◌, ap₂, arith}
+use Rattle.std.proofs.Common.{◌≡◌, Bool, true, false, cond, ◌&&◌, ℤ, Ok, Err, Result, refl, ap, ◌∙◌, ap₂, arith}
 use Rattle.std.proofs.lemmas.Int.{clamps, ints}
 use Rattle.formula.specs.declared.Operation.{Operation}
 use Rattle.figure.specs.declared.band.Bands.{Bands}
@@ -27,10 +27,13 @@ chosen : (b : Bool) (s t : Ticks) → ◌≡◌ {A = Result Ticks FigureFault} (
 chosen true s t h = (refl, cc)
 chosen false s t h = absurd (cc)
 
+from_ranged : (t : Ticks) (z : ℤ) → ◌≡◌ {A = Result Ticks FigureFault} (Ok t) (ranged z) → (in_range z ≡ true) × (t ≡ tick z)
+from_ranged t z h = chosen (in_range z) (tick z) t h
+
 pub both_ranged : (e : Ends) (l h : Ticks) (x : Bands) → x ≡ band l.0 h.0
     → ◌≡◌ {A = Result Ticks FigureFault} (Ok l) (ranged e.low) → ◌≡◌ {A = Result Ticks FigureFault} (Ok h) (ranged e.high)
     → ◌≡◌ {A = Result Bands FigureFault} (Ok x) (ranged_ends e)
 both_ranged e l h x b p q =
-    let at_low = chosen (in_range e.low) (tick e.low) l p in
-    let at_high = chosen (in_range e.high) (tick e.high) h q in
+    let at_low = from_ranged l e.low p in
+    let at_high = from_ranged h e.high q in
     rw (at_low.0, at_high.0) (ap Ok (b ∙ ap₂ (λ s t. band s.0 t.0) at_low.1 at_high.1))

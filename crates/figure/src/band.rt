@@ -16,7 +16,8 @@ pub struct Bands {
 }
 
 impl Bands {
-    ghost use Rattle.figure.specs.Bands.{band, holds_zero, ranged_ends};
+    ghost use Rattle.figure.specs.Bands.{band, high_end, holds_zero, low_end, ranged_ends};
+    ghost use Rattle.figure.specs.Ticks.{tick};
 
     // The band of two ticks, the smaller as its low end.
     pub fn between(a: Ticks, b: Ticks) -> Bands
@@ -29,13 +30,13 @@ impl Bands {
     }
 
     pub fn low(self) -> Ticks
-        ensures { result ≡ self.low }
+        ensures { result ≡ tick (low_end self) }
     {
         self.low
     }
 
     pub fn high(self) -> Ticks
-        ensures { result ≡ self.high }
+        ensures { result ≡ tick (high_end self) }
     {
         self.high
     }

@@ -17,15 +17,17 @@ loop-place-preserved g c =
     }
 
 pub returns : goal.returns
-returns g c = record { gives = λ order yields.
-    let room = min c.args.q (length c.args.list.now) in
-    let iterator = c.into_iter-place-iterator.result in
-    let source : iterator.iter.iter ≡ c.args.numbers = cc in
-    let taken : iterator.iter.n ≡ room = cc in
-    let fresh : iterator.count ≡ 0 = cc in
-    let road : YieldsList g.I.Iterator.next_gives (λ number. number.now) c.args.numbers order = record { runs = yields } in
-    let came = read_all room order iterator (YieldsList-at source road) taken fresh c.loop-place.yielded _ c.loop-place.yielded_by _ _ c.in-None.is c.next.ensures.steps in
-    record {
-      written = c.loop-place.invariant.so_far.written ∙ ap (λ (numbers : List ℕ). overlaid numbers c.args.list.now) came;
-      told = c.loop-place.invariant.last ∙ ap (last_pick None) came;
-    } }
+returns g c = record {
+  gives = λ order yields.
+      let room = min c.args.q (length c.args.list.now) in
+      let iterator = c.into_iter-place-iterator.result in
+      let source : iterator.iter.iter ≡ c.args.numbers = cc in
+      let taken : iterator.iter.n ≡ room = cc in
+      let fresh : iterator.count ≡ 0 = cc in
+      let road : YieldsList g.I.Iterator.next_gives (λ number. number.now) c.args.numbers order = record { runs = yields } in
+      let came = read_all room order iterator (YieldsList-at source road) taken fresh c.loop-place.yielded _ c.loop-place.yielded_by _ _ c.in-None.is c.next.ensures.steps in
+      record {
+        written = c.loop-place.invariant.so_far.written ∙ ap (λ (numbers : List ℕ). overlaid numbers c.args.list.now) came;
+        told = c.loop-place.invariant.last ∙ ap (last_pick None) came;
+      };
+}
