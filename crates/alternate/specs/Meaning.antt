@@ -1,5 +1,5 @@
 -- What the picker `Alternate` chooses. Assumes nothing.
-use Rattle.std.specs.Prelude.{ℕ, ◌+◌, ◌-◌, ◌*◌, ◌/◌, cond, List, [], ◌∷◌, ◌++◌, take, drop, nat_lt}
+use Rattle.std.specs.Prelude.{ℕ, ◌+◌, ◌-◌, ◌*◌, ◌/◌, if◌then◌else◌, List, [], ◌∷◌, ◌++◌, take, drop, nat_lt}
 use Rattle.picker.specs.Greedy.{share}
 
 -- the numbers at the places 0, 2, 4, ..
@@ -22,4 +22,4 @@ alternate q shown = take (share q shown) (order shown)
 
 -- the place, among n shown numbers, of the pick at k: n - n / 2 places are even
 abbrev pub place_of : ℕ → ℕ → ℕ
-place_of n k = cond (nat_lt k (n - n / 2)) (2 * k) (2 * (k - (n - n / 2)) + 1)
+place_of n k = if nat_lt k (n - n / 2) then 2 * k else 2 * (k - (n - n / 2)) + 1

@@ -2,6 +2,7 @@
 use Rattle.std.specs.Prelude.{ℕ, ◌+◌, ◌-◌, ◌^◌, min, List, ◌++◌, codes, decimal, ℤ, Ok, Err, Result}
 use Rattle.std.specs.Fmt.{signed_decimal}
 use Rattle.formula.specs.declared.Operation.{Operation}
+use Rattle.formula.specs.declared.Operation.TheVariants.{Mul}
 use Rattle.figure.specs.declared.FigureFault.{FigureFault}
 use Rattle.figure.specs.declared.Ticks.{Ticks}
 use Rattle.figure.specs.Ticks.{tick as tick_of, tick_outcome}
@@ -25,3 +26,8 @@ counted_outcome o l r = with_count (count_after l.count r.count) (tick_outcome o
 -- in words
 abbrev pub counted_text : Counted → List ℕ
 counted_text c = signed_decimal c.tick.0 ++ (codes " by " ++ decimal c.count)
+
+-- an outcome by itself; a fault stays as it is
+abbrev pub squared : Result Counted FigureFault → Result Counted FigureFault
+squared (Ok s) = counted_outcome Mul s s
+squared (Err e) = Err e

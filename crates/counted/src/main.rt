@@ -1,9 +1,9 @@
 // Ticks that count the operations that went into them: a kind of figure, and a program that prints some outcomes.
 #![tactic(auto)]
 
-ghost use Rattle.counted.specs.Meaning.{count_after, counted_number, counted_outcome, counted_text};
-ghost use Rattle.formula.specs.declared.Operation.TheVariants.{Add, Mul};
-ghost use Rattle.std.specs.Prelude.{◌≡◌, Some, Ok, Err};
+ghost use Rattle.counted.specs.Meaning.{count_after, counted_number, counted_outcome, counted_text, squared};
+ghost use Rattle.formula.specs.declared.Operation.TheVariants.{Add};
+ghost use Rattle.std.specs.Prelude.{◌≡◌, Some};
 
 use figure::{Figure, FigureFault, Ticks};
 use formula::Operation;
@@ -53,7 +53,7 @@ impl fmt::Display for Counted {
 
 // (a add b) mul (a add b)
 fn square_of_sum(a: Counted, b: Counted) -> Result<Counted, FigureFault>
-    ensures { result ≡ elim (counted_outcome Add a b) [ Ok s ↦ counted_outcome Mul s s | Err e ↦ Err e ] }
+    ensures { result ≡ squared (counted_outcome Add a b) }
 {
     let sum = Counted::operate(Operation::Add, a, b)?;
     Counted::operate(Operation::Mul, sum, sum)

@@ -1,5 +1,5 @@
 -- What bands mean. Assumes nothing.
-use Rattle.std.specs.Prelude.{ℕ, Bool, cond, ◌&&◌, ◌||◌, List, ◌++◌, codes, ℤ, pos, ◌≤ℤ◌, Ok, Err, Result}
+use Rattle.std.specs.Prelude.{ℕ, Bool, if◌then◌else◌, ◌&&◌, ◌||◌, List, ◌++◌, codes, ℤ, pos, ◌≤ℤ◌, Ok, Err, Result}
 use Rattle.std.proofs.Common.{arith}
 use Rattle.std.proofs.lemmas.Int.{clamps, ints}
 use Rattle.std.specs.Fmt.{signed_decimal}
@@ -66,13 +66,13 @@ ends_of Max x y = end_by_end Max x y
 
 -- two ends as a band, where both are in range
 abbrev pub ranged_ends : Ends → Result Bands FigureFault
-ranged_ends e = cond (in_range e.low && in_range e.high) (Ok (band e.low e.high)) (Err OutOfRange)
+ranged_ends e = if in_range e.low && in_range e.high then Ok (band e.low e.high) else Err OutOfRange
 
 abbrev pub holds_zero : Bands → Bool
 holds_zero x = within (low_end x) (high_end x) (pos 0)
 
 abbrev pub band_outcome : Operation → Bands → Bands → Result Bands FigureFault
-band_outcome op x y = cond (divides op && holds_zero y) (Err ZeroDivisor) (ranged_ends (ends_of op x y))
+band_outcome op x y = if divides op && holds_zero y then Err ZeroDivisor else ranged_ends (ends_of op x y)
 
 -- a band that cannot be divided by at its ends
 abbrev pub zero_end : Bands → Bool

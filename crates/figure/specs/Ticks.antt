@@ -1,5 +1,5 @@
 -- What ticks mean. Assumes nothing.
-use Rattle.std.specs.Prelude.{Bool, cond, ◌&&◌, ℤ, pos, Ok, Err, Result}
+use Rattle.std.specs.Prelude.{Bool, if◌then◌else◌, ◌&&◌, ℤ, pos, Ok, Err, Result}
 use Rattle.formula.specs.declared.Operation.{Operation}
 use Rattle.figure.specs.declared.fault.FigureFault.{FigureFault}
 use Rattle.figure.specs.declared.fault.FigureFault.TheVariants.{OutOfRange, ZeroDivisor}
@@ -11,10 +11,10 @@ tick n = record { 0 = n }
 
 -- a whole number as a tick, where it is in range
 abbrev pub ranged : ℤ → Result Ticks FigureFault
-ranged z = cond (in_range z) (Ok (tick z)) (Err OutOfRange)
+ranged z = if in_range z then Ok (tick z) else Err OutOfRange
 
 abbrev pub is_zero : Ticks → Bool
 is_zero a = within a.0 a.0 (pos 0)
 
 abbrev pub tick_outcome : Operation → Ticks → Ticks → Result Ticks FigureFault
-tick_outcome op a b = cond (divides op && is_zero b) (Err ZeroDivisor) (ranged (exact op a.0 b.0))
+tick_outcome op a b = if divides op && is_zero b then Err ZeroDivisor else ranged (exact op a.0 b.0)

@@ -1,9 +1,11 @@
 -- A 32-bit word as a line of exactly eight lowercase hexadecimal digits. Assumes nothing.
-use Rattle.std.specs.Prelude.{ℕ, ◌+◌, ◌-◌, ◌*◌, ◌/◌, ◌%◌, ◌^◌, cond, ◌&&◌, List, [], ◌∷◌, length, Some, None, Option, option_and_then, ◌==◌, nat_le, nat_lt}
+use Rattle.std.specs.Prelude.{ℕ, ◌+◌, ◌-◌, ◌*◌, ◌/◌, ◌%◌, ◌^◌, if◌then◌else◌, ◌&&◌, List, [], ◌∷◌, length, Some, None, Option, option_and_then, ◌==◌, nat_le, nat_lt}
 
 -- the number that a byte stands for: '0' to '9' are 48 to 57, 'a' to 'f' are 97 to 102
 abbrev pub digit_value : ℕ → Option ℕ
-digit_value b = cond (nat_le 48 b && nat_le b 57) (Some (b - 48)) (cond (nat_le 97 b && nat_le b 102) (Some (b - 87)) None)
+digit_value b =
+    if nat_le 48 b && nat_le b 57 then Some (b - 48) else
+    if nat_le 97 b && nat_le b 102 then Some (b - 87) else None
 
 -- the number that digits spell, most significant first, after digits that spell n
 abbrev pub spelled : ℕ → List ℕ → Option ℕ
@@ -12,11 +14,11 @@ spelled n (b ∷ bs) = option_and_then (λ d. spelled (16 * n + d) bs) (digit_va
 
 -- the word of a line: eight digits give their number, and nothing else gives one
 abbrev pub word_of : List ℕ → Option ℕ
-word_of line = cond (length line == 8) (spelled 0 line) None
+word_of line = if length line == 8 then spelled 0 line else None
 
 -- the digit for a number below 16
 abbrev pub digit_of : ℕ → ℕ
-digit_of n = cond (nat_lt n 10) (48 + n) (87 + n)
+digit_of n = if nat_lt n 10 then 48 + n else 87 + n
 
 -- the digit of the four bits of a word that stand above its lowest k bits
 abbrev pub digit_at : ℕ → ℕ → ℕ

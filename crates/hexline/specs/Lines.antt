@@ -1,5 +1,5 @@
 -- A text as lines, and what it means that its lines were read into a table. Assumes nothing.
-use Rattle.std.specs.Prelude.{◌≡◌, ℕ, ◌+◌, ◌-◌, ◌*◌, ◌<◌, ◌≤◌, cond, ◌⊎◌, List, [], ◌∷◌, ◌++◌, codes, decimal, length, take, Some, None, Ok, Err, Result, ◌==◌, if◌then◌else◌, slice_index, slice_index_or, slice_set}
+use Rattle.std.specs.Prelude.{◌≡◌, ℕ, ◌+◌, ◌-◌, ◌*◌, ◌<◌, ◌≤◌, if◌then◌else◌, ◌⊎◌, List, [], ◌∷◌, ◌++◌, codes, decimal, length, take, Some, None, Ok, Err, Result, ◌==◌, if◌then◌else◌, slice_index, slice_index_or, slice_set}
 use Rattle.std.specs.List.{onto_first}
 use Rattle.hexline.specs.Hex.{word_of}
 use Rattle.hexline.specs.declared.table.BadLine.{BadLine}
@@ -7,7 +7,7 @@ use Rattle.hexline.specs.declared.table.BadLine.{BadLine}
 -- a text cut at its newlines, byte 10; the last newline may be left out
 abbrev pub lines_of : List ℕ → List (List ℕ)
 lines_of [] = []
-lines_of (b ∷ bs) = cond (b == 10) ([] ∷ lines_of bs) (onto_first b (lines_of bs))
+lines_of (b ∷ bs) = if b == 10 then [] ∷ lines_of bs else onto_first b (lines_of bs)
 
 -- a line without the newline at its end, if it has one
 abbrev pub without_newline : List ℕ → List ℕ

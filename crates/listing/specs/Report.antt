@@ -1,5 +1,5 @@
 -- What the program prints for a text and an input count. Assumes nothing.
-use Rattle.std.specs.Prelude.{◌≡◌, ℕ, zero, suc, ◌<◌, cond, List, [], ◌++◌, length, take, replicate, Some, None, Ok, Err, codes, decimal, Option, Result, nat_lt, slice_index}
+use Rattle.std.specs.Prelude.{◌≡◌, ℕ, zero, suc, ◌<◌, if◌then◌else◌, List, [], ◌++◌, length, take, replicate, Some, None, Ok, Err, codes, decimal, Option, Result, nat_lt, slice_index}
 use Rattle.formula.specs.Admission.{Answers, counted_by}
 use Rattle.formula.specs.Binders.{binders}
 use Rattle.formula.specs.Refusals.{refusal_text}
@@ -27,7 +27,7 @@ row_text place word shape count =
 
 -- the binder count of a place, where counts are written for so many places
 abbrev pub count_at : List ℕ → ℕ → ℕ → Option ℕ
-count_at words counted place = cond (nat_lt place counted) (Some (binders words place)) None
+count_at words counted place = if nat_lt place counted then Some (binders words place) else None
 
 -- the rows of the first so many places
 abbrev pub rows_text : List ℕ → ℕ → ℕ → List ℕ

@@ -1,5 +1,5 @@
 -- The choices of the three pickers keep the greedy rule. Assumes nothing.
-use Rattle.std.specs.Prelude.{◌≡◌, ℕ, ◌+◌, ◌-◌, ◌<◌, ◌≤◌, cond, ◌⊎◌, List, ◌++◌, length, take, drop, Some, None, Option, nat_lt, slice_index}
+use Rattle.std.specs.Prelude.{◌≡◌, ℕ, ◌+◌, ◌-◌, ◌<◌, ◌≤◌, if◌then◌else◌, ◌⊎◌, List, ◌++◌, length, take, drop, Some, None, Option, nat_lt, slice_index}
 use Rattle.std.proofs.Common.{ap, sym, ◌∙◌, inl, inr, ⊎_elim, arith}
 use Rattle.std.proofs.lemmas.List.{get_or_append_left, get_or-append_right, get_or-drop, get_or-reverse, get_or-take, length-append, length-drop, length-reverse, length-take-le}
 use Rattle.std.proofs.lemmas.List.Sums.{prefix_len-le-length}
@@ -44,7 +44,7 @@ module _ (xs : List ℕ) (start : ℕ) (within : start ≤ length xs) where
   turned = drop start xs ++ take start xs
 
   abbrev pub place : ℕ → ℕ
-  place k = cond (nat_lt k (length xs - start)) (start + k) (k - (length xs - start))
+  place k = if nat_lt k (length xs - start) then start + k else k - (length xs - start)
 
   pub cases_place : (k : ℕ) → ((k < length xs - start) × (place k ≡ start + k)) ⊎ ((length xs - start ≤ k) × (place k ≡ k - (length xs - start)))
   cases_place k =

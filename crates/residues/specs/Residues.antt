@@ -1,5 +1,5 @@
 -- Numbers modulo 7: the residue of a number, and each operation. Assumes nothing.
-use Rattle.std.specs.Prelude.{ℕ, ◌+◌, ◌-◌, ◌*◌, ◌%◌, min, max, cond, [], ◌∷◌, ℤ, pos, Ok, Err, Result, ◌==◌, slice_index, unsigned_abs}
+use Rattle.std.specs.Prelude.{ℕ, ◌+◌, ◌-◌, ◌*◌, ◌%◌, min, max, if◌then◌else◌, [], ◌∷◌, ℤ, pos, Ok, Err, Result, ◌==◌, slice_index, unsigned_abs}
 use Rattle.std.proofs.Common.{mod-lt, lit<}
 use Rattle.std.specs.Int.{int_rem_euclid}
 use Rattle.formula.specs.declared.Operation.{Operation}
@@ -25,6 +25,6 @@ abbrev pub residue_outcome : Operation → Residues → Residues → Result Resi
 residue_outcome Add a b = Ok (residue (a.value + b.value))
 residue_outcome Sub a b = Ok (residue (a.value + (7 - b.value)))
 residue_outcome Mul a b = Ok (residue (a.value * b.value))
-residue_outcome Div a b = cond (b.value == 0) (Err ZeroDivisor) (Ok (residue (a.value * inverse_of b.value)))
+residue_outcome Div a b = if b.value == 0 then Err ZeroDivisor else Ok (residue (a.value * inverse_of b.value))
 residue_outcome Min a b = Ok (residue (min a.value b.value))
 residue_outcome Max a b = Ok (residue (max a.value b.value))
