@@ -59,6 +59,7 @@ fn square_of_sum(a: Counted, b: Counted) -> Result<Counted, FigureFault>
     Counted::operate(Operation::Mul, sum, sum)
 }
 
+// The test programs share no code, also where they print alike: each is what a host writes.
 fn show(rt: &impl Print, outcome: Result<Counted, FigureFault>) -> io::Result<()> {
     match outcome {
         Ok(counted) => println!(rt; "{counted}"),

@@ -72,7 +72,8 @@ fn count(words: &[u32], inputs: u32, work: &mut [u32]) -> Result<(), Refusal>
     Ok(())
 }
 
-// The formula of these words, if they are admitted for so many inputs.
+// The formula of these words, if they are admitted for so many inputs. Until then the words, the
+// input count and the lent table go down side by side: a struct of the first two is a `Formula`.
 fn admitted<'a>(words: &'a [u32], inputs: u32, work: &mut [u32]) -> Result<Formula<'a>, Refusal>
     ensures answer { Answers inputs words.now (length work.old) result }
     ensures counts { Counted words.now (counted_by words.now result) work.old work.new }
@@ -93,6 +94,7 @@ fn admitted<'a>(words: &'a [u32], inputs: u32, work: &mut [u32]) -> Result<Formu
 }
 
 // Fills the formula that a host keeps with these words, if they are admitted for so many inputs.
+// It is lent and not answered, since a refusal leaves the host the one it had.
 pub fn admit<'a>(
     words: &'a [u32],
     inputs: u32,

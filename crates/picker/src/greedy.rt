@@ -13,7 +13,7 @@ pub fn pick_greedily<P: Picker>(picker: &mut P, shown: &[u32], q: usize, list: &
     q.min(shown.len())
 }
 
-// These four go together by the project's rule: the numbers shown and the list are the step's, which lends them as slices of u32.
+// The numbers and the list are lent by the step, as slices of u32, so they are no struct with the picker and q.
 fn ask<P: Picker>(picker: &mut P, shown: &[u32], q: usize, list: &mut [u32])
     ensures { PicksGreedily P.chooses picker.old picker.new shown.now q list.old list.new }
 {
