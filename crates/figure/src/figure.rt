@@ -20,6 +20,7 @@ pub trait Figure: Copy {
     // What an operation gives on two figures.
     ghost outcome: { Operation → Self → Self → Result Self FigureFault };
 
+    // No `From<i32>`: what that gives is a relation, and meanings are made of a function.
     fn number(n: i32) -> Self
         ensures { result ≡ number n };
 
