@@ -10,6 +10,7 @@ use picker::Picker;
 pub struct Alternate;
 
 // Writes the picks at the head of the list, as many as there are slots and places for.
+// Its own loop, since the like in `picker` has a `requires` and so is not public.
 fn write_alternate(shown: &[u32], q: usize, list: &mut [u32])
     ensures { list.new ≡ overlaid (alternate (min q (length list.old)) shown.now) list.old }
 {

@@ -14,7 +14,7 @@ pub enum FigureFault {
 }
 
 impl FigureFault {
-    // The number by which a host is told of the fault, which `u32::from(fault)` would not say.
+    // A method and no conversion, since nothing reads a fault from its number, as an operation is read from its code.
     pub fn number(self) -> u32
         ensures { result ≡ fault_number self }
     {

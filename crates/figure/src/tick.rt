@@ -33,7 +33,8 @@ impl Figure for Ticks {
     }
 }
 
-// Another range is a change of these two; `i32::try_from` in place of the test would tie it to the type.
+// Another range is to be a change of these two and of the definition `in_range` alone, so the test
+// below is not `i32::try_from`.
 const LEAST: i64 = -2_147_483_648;
 
 const GREATEST: i64 = 2_147_483_647;

@@ -42,6 +42,7 @@ impl fmt::Display for BothEnds {
     }
 }
 
+// The test programs share no code, also where they print alike: each is what a host writes.
 fn show<F: fmt::Display + Drop>(
     rt: &HostRuntime,
     outcome: Result<F, FigureFault>,

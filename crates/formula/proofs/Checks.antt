@@ -1,10 +1,10 @@
 -- What a word's checks say of the places that it names, and of the refusal that they give. Assumes nothing.
-use Rattle.std.proofs.Common.{◌≡◌, ℕ, ◌≤◌, Bool, true, false, if◌then◌else◌, List, length, Some, None, Ok, Err, Option, Result, refl, subst, arith}
-use Rattle.formula.specs.Admission.{Answers, FirstBad, Refused, Sized, all_below, counted_by, input_known, shape_refusal, word_refusal}
+use Rattle.std.proofs.Common.{◌≡◌, ℕ, ◌≤◌, Bool, true, false, if◌then◌else◌, List, length, Some, None, Err, Option, refl, subst, arith}
+use Rattle.formula.specs.Admission.{FirstBad, Refused, Sized, all_below, counted_by, input_known, shape_refusal, word_refusal}
 use Rattle.formula.specs.Binders.{named_places}
 use Rattle.formula.specs.Words.{shape_at}
 use Rattle.formula.specs.declared.refusal.Refusal.{Refusal}
-use Rattle.formula.specs.declared.refusal.Refusal.TheVariants.{WordCount, ShortTable, BadLeaf, PlaceNotBelow, NoSuchInput, NotClosed}
+use Rattle.formula.specs.declared.refusal.Refusal.TheVariants.{BadLeaf, PlaceNotBelow, NoSuchInput}
 use Rattle.formula.specs.declared.word.Word.{Word}
 
 -- the refusals that a word's own checks give
@@ -42,13 +42,3 @@ first_bad inputs words room place why sized fits bad = at why (of_shape inputs (
     at e leaf first = ((sized, fits, first), refl)
     at e below first = ((sized, fits, first), refl)
     at e input first = ((sized, fits, first), refl)
-
--- no answer leaves more counts than there are words
-pub counted_within : (inputs : ℕ) (words : List ℕ) (room : ℕ) (r : Result (Unit {0}) Refusal) → Answers inputs words room r → counted_by words r ≤ length words
-counted_within inputs words room (Ok x) a = omega arith
-counted_within inputs words room (Err WordCount) a = omega arith
-counted_within inputs words room (Err ShortTable) a = omega arith
-counted_within inputs words room (Err (BadLeaf place)) a = omega (arith, a.2.within)
-counted_within inputs words room (Err (PlaceNotBelow place)) a = omega (arith, a.2.within)
-counted_within inputs words room (Err (NoSuchInput place)) a = omega (arith, a.2.within)
-counted_within inputs words room (Err (NotClosed place)) a = omega arith

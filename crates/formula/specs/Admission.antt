@@ -24,7 +24,7 @@ abbrev pub word_refusal : ℕ → Word → ℕ → Option Refusal
 word_refusal inputs word place =
     if all_below place (named_places word) then (if input_known inputs word then None else Some (NoSuchInput place)) else Some (PlaceNotBelow place)
 
--- a place that has no word fails before any of these
+-- a word that has no shape fails before any of these
 abbrev pub shape_refusal : ℕ → Option Word → ℕ → Option Refusal
 shape_refusal inputs None place = Some (BadLeaf place)
 shape_refusal inputs (Some word) place = word_refusal inputs word place

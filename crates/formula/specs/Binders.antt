@@ -22,7 +22,7 @@ binders_of (Number n) count = 0
 binders_of (Op op) count = 0
 binders_of (Input i) count = 0
 
--- where there is no word, no binder is needed
+-- a word that has no shape needs no binder
 abbrev pub shape_binders : Option Word → (ℕ → ℕ) → ℕ
 shape_binders (Some word) count = binders_of word count
 shape_binders None count = 0

@@ -1,4 +1,4 @@
--- Words in words. Assumes nothing.
+-- How a word is printed. Assumes nothing.
 use Rattle.std.specs.Prelude.{ℕ, List, ◌++◌, codes, decimal}
 use Rattle.std.specs.Fmt.{signed_decimal}
 use Rattle.formula.specs.declared.word.Word.{Word}

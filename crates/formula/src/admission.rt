@@ -50,9 +50,7 @@ fn count_word(word: u32, place: usize, inputs: u32, work: &mut [u32]) -> Result<
     ensures count { work.new ≡ (if is_ok result then slice_set work.old place (shape_binders (shape word) (λ p. slice_index work.old p)) else work.old) }
 {
     let at = place as u32;
-    let Ok(word) = Word::try_from(word) else {
-        return Err(Refusal::BadLeaf(at));
-    };
+    let word = Word::try_from(word).map_err(|_| Refusal::BadLeaf(at))?;
     check(word, at, inputs)?;
     work[place] = binders(word, work);
     Ok(())
@@ -72,8 +70,9 @@ fn count(words: &[u32], inputs: u32, work: &mut [u32]) -> Result<(), Refusal>
     Ok(())
 }
 
-// The formula of these words, if they are admitted for so many inputs. Until then the words, the
-// input count and the lent table go down side by side: a struct of the first two is a `Formula`.
+// The formula of these words, if they are admitted for so many inputs. Words, input count and work
+// table are passed one by one, since a struct of the first two is a `Formula`, and they are one only
+// when admitted. What it promises of answer and counts is what `admit` promises, so both say it.
 fn admitted<'a>(words: &'a [u32], inputs: u32, work: &mut [u32]) -> Result<Formula<'a>, Refusal>
     ensures answer { Answers inputs words.now (length work.old) result }
     ensures counts { Counted words.now (counted_by words.now result) work.old work.new }

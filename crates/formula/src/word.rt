@@ -17,7 +17,7 @@ pub enum Word {
     Application { function: u32, argument: u32 },
 }
 
-// A word that is none: a leaf with tell 3, or an operation above 5.
+// The error for a word that has no shape: a leaf with tell 3, or an operation above 5.
 #[derive(Clone, Copy, PartialEq, Eq, Debug)]
 pub struct NotAllowed;
 
@@ -65,9 +65,9 @@ fn signed(bits: u32) -> i32
     ensures { result ≡ twos_complement bits }
 {
     if bits < 0x2000_0000 {
-        bits as i32
+        bits.cast_signed()
     } else {
-        bits as i32 - 0x4000_0000
+        bits.cast_signed() - 0x4000_0000
     }
 }
 

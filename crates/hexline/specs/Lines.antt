@@ -1,5 +1,5 @@
 -- A text as lines, and what it means that its lines were read into a table. Assumes nothing.
-use Rattle.std.specs.Prelude.{◌≡◌, ℕ, ◌+◌, ◌-◌, ◌*◌, ◌<◌, ◌≤◌, if◌then◌else◌, ◌⊎◌, List, [], ◌∷◌, ◌++◌, codes, decimal, length, take, Some, None, Ok, Err, Result, ◌==◌, if◌then◌else◌, slice_index, slice_index_or, slice_set}
+use Rattle.std.specs.Prelude.{◌≡◌, ℕ, ◌+◌, ◌-◌, ◌*◌, ◌<◌, ◌≤◌, if◌then◌else◌, ◌⊎◌, List, [], ◌∷◌, ◌++◌, codes, decimal, length, take, Some, None, Ok, Err, Result, ◌==◌, slice_index, slice_index_or, slice_set}
 use Rattle.std.specs.List.{onto_first}
 use Rattle.hexline.specs.Hex.{word_of}
 use Rattle.hexline.specs.declared.table.BadLine.{BadLine}

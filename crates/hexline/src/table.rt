@@ -50,6 +50,7 @@ fn read_line(line: &[u8], table: &mut [u32], place: usize) -> Result<(), BadLine
 
 // Reads the lines of `text` into the head of `table`, and says how many there were.
 // A text of more than nine bytes for each place decides the answer, whatever follows it.
+// The table is lent and its head filled, since the crate has no heap.
 pub fn read_table(text: &[u8], table: &mut [u32]) -> Result<usize, BadLine>
     ensures reads { ReadInto (lines_of text.now) table.old table.new result }
     ensures enough { Decided text.now table.old table.new result }

@@ -10,6 +10,7 @@ use hexline::{BadLine, read_table};
 use std::alloc::{AllocError, Global};
 use std::{fmt, str};
 
+// So many places have the two tables, which are arrays: a `Vec` would be no shorter, and could fail.
 pub const MOST_LINES: usize = 4096;
 
 // A binder count, if admission wrote one.
@@ -35,7 +36,7 @@ fn row(heap: Global, place: usize, word: u32, count: Option<u32>) -> Result<Stri
     let count = Count(count);
     match Word::try_from(word) {
         Ok(shape) => format!(in heap; "{place} {line} {shape}, {count}\n"),
-        Err(none) => format!(in heap; "{place} {line} {none}, {count}\n"),
+        Err(not_allowed) => format!(in heap; "{place} {line} {not_allowed}, {count}\n"),
     }
 }
 

@@ -1,5 +1,5 @@
 // Turn: the threads above the one it picked last, rising, and then round to the lowest.
-ghost use Rattle.std.specs.Prelude.{◌≡◌, ◌≤◌, min, ◌++◌, length, take, None};
+ghost use Rattle.std.specs.Prelude.{◌≡◌, ◌≤◌, min, length, None};
 ghost use Rattle.std.specs.List.{prefix_len};
 ghost use Rattle.picker.specs.Greedy.{overlaid};
 ghost use Rattle.picker.specs.Orders.{FirstBy, Sooner, behind, had_turn, in_turn, last_pick};
@@ -38,10 +38,7 @@ impl Turn {
         ensures count { result ≡ behind self.now shown.now }
         ensures within { result ≤ length shown.now }
     {
-        match self.last {
-            Some(last) => up_to(last, shown),
-            None => 0,
-        }
+        self.last.map_or(0, |last| up_to(last, shown))
     }
 }
 

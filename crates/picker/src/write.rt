@@ -11,6 +11,7 @@ pub(crate) fn write_first<'a, I: Iterator<Item = &'a u32> + Drop>(
     requires { I.can_next numbers }
     ensures { WrittenFrom I.next_gives numbers q list.old list.new result }
 {
+    // By index, since nothing is known of a slice after a loop over an adapter of its `iter_mut`.
     let mut last = None;
     for (place, number) in numbers.take(q.min(list.len())).enumerate() {
         list[place] = *number;

@@ -58,14 +58,15 @@ fn answer(rt: &HostRuntime, turn: &mut Turn, line: &str) -> anyhow::Result<()> {
     let places = parts.next().context("no places")?.parse::<u32>()?;
     let shown = parts.map(number).try_collect::<Vec<u32>>(rt.alloc())?;
     let mut list = list_of(rt, places)?;
-    if name == "new" {
-        *turn = Turn::new();
-    }
     // Each arm has a picker of its own type: a `dyn Picker` cannot be passed for the bound of `pick_greedily`.
     match name {
         "oldest" => show(rt, &mut Oldest, &shown, q, &mut list),
         "youngest" => show(rt, &mut Youngest, &shown, q, &mut list),
-        "turn" | "new" => show(rt, turn, &shown, q, &mut list),
+        "turn" => show(rt, turn, &shown, q, &mut list),
+        "new" => {
+            *turn = Turn::new();
+            show(rt, turn, &shown, q, &mut list)
+        }
         _ => Err(anyhow!("no such picker")),
     }
 }

@@ -12,6 +12,7 @@ use laws::back_again;
 use residue::Residues;
 use std::{fmt, io};
 
+// The test programs share no code, also where they print alike: each is what a host writes.
 fn tell<F: fmt::Display + Drop>(
     rt: &impl Print,
     outcome: Result<F, FigureFault>,

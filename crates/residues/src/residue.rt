@@ -53,7 +53,7 @@ impl Figure for Residues {
     ghost outcome = { residue_outcome };
 
     fn number(n: i32) -> Residues {
-        Residues::from(n.rem_euclid(7) as u32)
+        Residues::from(n.rem_euclid(7).unsigned_abs())
     }
 
     fn operate(
