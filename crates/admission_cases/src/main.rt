@@ -21,6 +21,7 @@ fn answer(rt: &HostRuntime, line: &str) -> anyhow::Result<()> {
     Ok(())
 }
 
+// The test programs share no code: each is what a host writes.
 fn main(rt: HostRuntime) -> anyhow::Result<()> {
     for line in rt.lines(rt.alloc()) {
         answer(&rt, line?.as_str())?;

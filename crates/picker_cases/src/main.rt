@@ -71,6 +71,7 @@ fn answer(rt: &HostRuntime, turn: &mut Turn, line: &str) -> anyhow::Result<()> {
     }
 }
 
+// The test programs share no code: each is what a host writes.
 fn main(rt: HostRuntime) -> anyhow::Result<()> {
     show_examples(&rt)?;
     let mut turn = Turn::new();
