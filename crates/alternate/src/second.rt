@@ -10,7 +10,8 @@ use picker::Picker;
 pub struct Alternate;
 
 // Writes the picks at the head of the list, as many as there are slots and places for.
-// Its own loop, since the like in `picker` has a `requires` and so is not public.
+// A loop of its own, since `write_first` of `picker` has a `requires` and so is not public; by index,
+// since nothing is known of a slice after a loop over an adapter of its `iter_mut`.
 fn write_alternate(shown: &[u32], q: usize, list: &mut [u32])
     ensures { list.new ≡ overlaid (alternate (min q (length list.old)) shown.now) list.old }
 {

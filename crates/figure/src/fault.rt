@@ -14,7 +14,7 @@ pub enum FigureFault {
 }
 
 impl FigureFault {
-    // A method and no conversion, since nothing reads a fault from its number, as an operation is read from its code.
+    // A method and no `From`: `fault.number()` names what it gives, and `u32::from(fault)` is no plainer.
     pub fn number(self) -> u32
         ensures { result ≡ fault_number self }
     {

@@ -54,6 +54,7 @@ fn show<F: fmt::Display + Drop>(
     Ok(())
 }
 
+// The test programs share no code: each is what a host writes.
 fn main(rt: HostRuntime) -> anyhow::Result<()> {
     for line in rt.lines(rt.alloc()) {
         answer(&rt, line?.as_str())?;

@@ -37,6 +37,7 @@ impl TryFrom<u32> for Operation {
     }
 }
 
+// By a match and not `as`, so that the codes do not hang on the order of the variants.
 impl From<Operation> for u32 {
     ghost from_gives = { λ operation code. code ≡ code_of operation };
 

@@ -41,7 +41,8 @@ pub fn read(line: &[u8]) -> Option<u32>
     Some(word)
 }
 
-// The digit of the four bits of `word` that start at `bit`.
+// The digit of the four bits of `word` that start at `bit`. It ends in `as`, since `u8::try_from` of
+// a `char` would need a second `unwrap`.
 fn digit_at(word: u32, bit: u32) -> u8
     requires { bit < 32 }
     ensures { result ≡ digit_at word bit }
@@ -49,7 +50,7 @@ fn digit_at(word: u32, bit: u32) -> u8
     char::from_digit((word >> bit) % 16, 16).unwrap() as u8
 }
 
-// The digits of a word, the highest first; `{:08x}` would need a `String`, and so the heap.
+// The digits of a word, the highest first. `{:08x}` gives text and not eight bytes, and is no shorter.
 fn digits(word: u32) -> [u8; 8]
     ensures { result ≡ line_of word }
 {

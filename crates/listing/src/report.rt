@@ -10,7 +10,7 @@ use hexline::{BadLine, read_table};
 use std::alloc::{AllocError, Global};
 use std::{fmt, str};
 
-// So many places have the two tables, which are arrays: a `Vec` would be no shorter, and could fail.
+// The places of each of the two tables. They are arrays: a `Vec` would be no shorter, and could fail.
 pub const MOST_LINES: usize = 4096;
 
 // A binder count, if admission wrote one.
@@ -31,9 +31,11 @@ impl fmt::Display for Count {
 fn row(heap: Global, place: usize, word: u32, count: Option<u32>) -> Result<String, AllocError>
     ensures { IfOk result (λ out. string_bytes out ≡ row_text place word (shape word) count) }
 {
+    // By `hexline::write`, whose contract gives the line; of `{word:08x}` the search did not prove it.
     let digits = hexline::write(word);
     let line = str::from_utf8(&digits).unwrap();
     let count = Count(count);
+    // Two arms: for one, a shape or its error would have to be a type of its own with a `Display`.
     match Word::try_from(word) {
         Ok(shape) => format!(in heap; "{place} {line} {shape}, {count}\n"),
         Err(not_allowed) => format!(in heap; "{place} {line} {not_allowed}, {count}\n"),
