@@ -37,7 +37,8 @@ impl TryFrom<u32> for Operation {
     }
 }
 
-// By a match and not `as`, so that the codes do not hang on the order of the variants.
+// By a match, which reads as the inverse of `try_from` above; for `as` each variant would need its
+// code too, which is no plainer.
 impl From<Operation> for u32 {
     ghost from_gives = { λ operation code. code ≡ code_of operation };
 
