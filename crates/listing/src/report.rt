@@ -8,7 +8,7 @@ ghost use Rattle.listing.specs.Report.{Decided, Listed, Reported, Told, count_te
 use formula::{Formula, Refusal, Word, admit};
 use hexline::{BadLine, read_table};
 use std::alloc::{AllocError, Global};
-use std::fmt;
+use std::{fmt, str};
 
 // The places of each of the two tables. They are arrays: a `Vec` would be no shorter, and could fail.
 pub const MOST_LINES: usize = 4096;
@@ -28,15 +28,17 @@ impl fmt::Display for Count {
     }
 }
 
-#[tactic(auto, using(crate::proofs::Digits::hex_line))]
 fn row(heap: Global, place: usize, word: u32, count: Option<u32>) -> Result<String, AllocError>
     ensures { IfOk result (λ out. string_bytes out ≡ row_text place word (shape word) count) }
 {
+    // By `hexline::write`, whose contract says that reading what is printed gives the word back.
+    let digits = hexline::write(word);
+    let line = str::from_utf8(&digits).unwrap();
     let count = Count(count);
     // Two arms: for one, a shape or its error would have to be a type of its own with a `Display`.
     match Word::try_from(word) {
-        Ok(shape) => format!(in heap; "{place} {word:08x} {shape}, {count}\n"),
-        Err(not_allowed) => format!(in heap; "{place} {word:08x} {not_allowed}, {count}\n"),
+        Ok(shape) => format!(in heap; "{place} {line} {shape}, {count}\n"),
+        Err(not_allowed) => format!(in heap; "{place} {line} {not_allowed}, {count}\n"),
     }
 }
 
