@@ -1,4 +1,5 @@
 pub mod Ages
+pub mod Parts
 pub mod Shares
 pub mod Writing
 mod Sources

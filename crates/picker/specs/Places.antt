@@ -12,7 +12,7 @@ use Rattle.picker.specs.Greedy.{Greedy, share}
 pub rising_above : (xs : List ℕ) → IsStrictlyIncreasing xs → (i j : ℕ) → i < j → j < length xs → slice_index xs i < slice_index xs j
 rising_above xs up i j lt h = below_from_sorted xs i j 0 (sorted_from_strictly_increasing xs up) lt h
 
--- numbers that rise: one at a later place is above, and they differ at different places
+-- numbers that rise differ at different places
 pub rising_apart : (xs : List ℕ) → IsStrictlyIncreasing xs → (i j : ℕ) → i < length xs → j < length xs → i ≢ j → slice_index xs i ≢ slice_index xs j
 rising_apart xs up i j hi hj ne same =
     ⊎_elim (λ (lt : i < j). omega (arith, rising_above xs up i j lt hj, same))

@@ -6,36 +6,25 @@ ghost use Rattle.picker.specs.Orders.{FirstBy, Sooner, behind, had_turn, in_turn
 ghost use Rattle.picker.specs.GreedyChoices.{in_turn_greedy};
 
 use crate::picker::Picker;
-use crate::write::write_first;
-use std::marker::Model;
+use crate::write::write_both;
 
-// Contracts see it as the number that it picked last, none at first.
+// It has no `Model`: a host's `Copy` struct that held one with a model could not be passed by value and used again.
 #[derive(Clone, Copy)]
 pub struct Turn {
     last: Option<u32>,
 }
 
-impl Model for Turn {
-    ghost use Rattle.std.specs.Prelude.{ℕ, Option};
-
-    ghost Value = { Option ℕ };
-
-    ghost view = { λ turn. turn.last };
-
-    ghost inverse = { λ last. record { last = last } };
-}
-
 impl Turn {
     // It begins at the lowest.
     pub fn new() -> Turn
-        ensures { result ≡ None }
+        ensures { result.last ≡ None }
     {
         Turn { last: None }
     }
 
     // How many of the numbers shown had their turn.
     fn passed(&self, shown: &[u32]) -> usize
-        ensures count { result ≡ behind self.now shown.now }
+        ensures count { result ≡ behind self.now.last shown.now }
         ensures within { result ≤ length shown.now }
     {
         self.last.map_or(0, |last| up_to(last, shown))
@@ -51,17 +40,17 @@ fn up_to(last: u32, numbers: &[u32]) -> usize
 }
 
 impl Picker for Turn {
-    ghost chooses = { λ before shown q picks after. (picks ≡ in_turn before q shown) × FirstBy (Sooner before) shown picks × (after ≡ last_pick before picks) };
+    ghost chooses = { λ before shown q picks after. (picks ≡ in_turn before.last q shown) × FirstBy (Sooner before.last) shown picks × (after.last ≡ last_pick before.last picks) };
 
-    ghost greedy = { λ before shown q picks after asked chosen. in_turn_greedy before q shown picks asked.rising chosen.0 };
+    ghost greedy = { λ before shown q picks after asked chosen. in_turn_greedy before.last q shown picks asked.rising chosen.0 };
 
     #[tactic(auto, using(crate::proofs::Sources::in_turn_written, crate::proofs::Sources::in_turn_told))]
     fn pick(&mut self, shown: &[u32], q: usize, list: &mut [u32])
-        ensures written { list.new ≡ overlaid (in_turn self.old (min q (length list.old)) shown.now) list.old }
-        ensures left { self.new ≡ last_pick self.old (in_turn self.old (min q (length list.old)) shown.now) }
+        ensures written { list.new ≡ overlaid (in_turn self.old.last (min q (length list.old)) shown.now) list.old }
+        ensures left { self.new.last ≡ last_pick self.old.last (in_turn self.old.last (min q (length list.old)) shown.now) }
     {
         let (passed, ahead) = shown.split_at(self.passed(shown));
-        let last = write_first(ahead.iter().chain(passed), q, list);
+        let last = write_both(ahead, passed, q, list);
         self.last = last.or(self.last);
     }
 }

@@ -1,5 +1,6 @@
 // Writing picks: the first of some numbers, which a picker has put in its order.
-ghost use Rattle.picker.specs.Orders.{WrittenFrom};
+ghost use Rattle.std.specs.Prelude.{◌++◌};
+ghost use Rattle.picker.specs.Orders.{FirstWritten, WrittenFrom};
 
 // Writes the first `q` numbers at the head of the list, or as many as there are, or as it has places for, and gives the last that it wrote.
 // It stays in this crate, since a function over any iterator has a `requires`, and no public function has one.
@@ -18,4 +19,14 @@ pub(crate) fn write_first<'a, I: Iterator<Item = &'a u32> + Drop>(
         last = Some(*number);
     }
     last
+}
+
+// The same for the numbers of two slices, one after the other.
+// By two calls: a loop over a `chain` asks at each number which of the two it is in, and took twice to five times as long.
+pub(crate) fn write_both(first: &[u32], second: &[u32], q: usize, list: &mut [u32]) -> Option<u32>
+    ensures { FirstWritten (first.now ++ second.now) q list.old list.new result }
+{
+    let of_first = q.min(list.len()).min(first.len());
+    let last = write_first(first.iter(), q, list);
+    write_first(second.iter(), q - of_first, &mut list[of_first..]).or(last)
 }
