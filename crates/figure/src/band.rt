@@ -57,9 +57,11 @@ impl Bands {
         Ok(Bands::in_order(low, high))
     }
 
+    // Two ticks that are in order; which is named first makes no difference.
     fn in_order(low: Ticks, high: Ticks) -> Bands
         requires { low.0 ≤ℤ high.0 }
-        ensures { result ≡ band low.0 high.0 }
+        ensures band { result ≡ band low.0 high.0 }
+        ensures either { result ≡ band high.0 low.0 }
     {
         Bands { low, high }
     }
