@@ -1,4 +1,4 @@
-use Rattle.std.proofs.Common.{◌≡◌, ℕ, List, drop, length, min, ap, ◌∙◌, take}
+use Rattle.std.proofs.Common.{◌≡◌, ℕ, List, drop, length, min, refl, ap, ◌∙◌, take, rules}
 use Rattle.std.specs.Slice.Iter.{iter_rest}
 use Rattle.std.proofs.lemmas.Iterator.{YieldsList-from_slice}
 use Rattle.std.proofs.lemmas.Iterator.Adapters.{YieldsList-from_skip}
@@ -30,7 +30,7 @@ returns c =
     let both = YieldsList-from_chain {s = c.chain.result} (YieldsList-at first evens) (YieldsList-at second odds) c.chain.ensures.first_done c.chain.ensures.second_done in
     let iterator = c.into_iter-place-iterator.result in
     let source : iterator.iter.iter ≡ c.chain.result = cc in
-    let taken : iterator.iter.n ≡ room = cc in
+    let as_many : min iterator.iter.n (length shown) ≡ min room (length shown) = search rules in
     let fresh : iterator.count ≡ 0 = cc in
-    let came = read_all room (order shown) iterator (YieldsList-at source both) taken fresh c.loop-place.yielded _ c.loop-place.yielded_by _ _ c.in-None.is c.next.ensures.steps in
-    c.loop-place.invariant.written ∙ ap (λ (numbers : List ℕ). overlaid numbers list) (came ∙ ap (λ (n : ℕ). take (min room n) (order shown)) (length-order shown))
+    let came = read_all iterator.iter.n (order shown) iterator (YieldsList-at source both) refl fresh c.loop-place.yielded _ c.loop-place.yielded_by _ _ c.in-None.is c.next.ensures.steps in
+    c.loop-place.invariant.written ∙ ap (λ (numbers : List ℕ). overlaid numbers list) (came ∙ ap (λ (n : ℕ). take (min iterator.iter.n n) (order shown)) (length-order shown) ∙ ap (λ (n : ℕ). take n (order shown)) as_many)
