@@ -22,7 +22,7 @@ pub(crate) fn write_first<'a, I: Iterator<Item = &'a u32> + Drop>(
 }
 
 // The same for the numbers of two slices, one after the other.
-// By two calls: a loop over a `chain` asks at each number which of the two it is in, and took twice to five times as long.
+// By two calls: a loop over a `chain` asks at each number which of the two it is in, and took twice to five times as long for 64 picks and more.
 pub(crate) fn write_both(first: &[u32], second: &[u32], q: usize, list: &mut [u32]) -> Option<u32>
     ensures { FirstWritten (first.now ++ second.now) q list.old list.new result }
 {
