@@ -28,6 +28,8 @@ impl fmt::Display for Count {
     }
 }
 
+// No line below needs `hex_line`: by it `{word:08x}` in the first arm is proved too, so that the edit `digits_not_filled_with_zeros` is refused for the missing zeros.
+#[tactic(auto, using(crate::proofs::Digits::hex_line))]
 fn row(heap: Global, place: usize, word: u32, count: Option<u32>) -> Result<String, AllocError>
     ensures { IfOk result (λ out. string_bytes out ≡ row_text place word (shape word) count) }
 {

@@ -1,5 +1,6 @@
 use Rattle.std.proofs.Common.{◌≡◌, ℕ, List, drop, length, min, refl, ap, ◌∙◌, take, rules}
 use Rattle.std.specs.Slice.Iter.{iter_rest}
+use Rattle.std.proofs.lemmas.Grind.{common_steps}
 use Rattle.std.proofs.lemmas.Iterator.{YieldsList-from_slice}
 use Rattle.std.proofs.lemmas.Iterator.Adapters.{YieldsList-from_skip}
 use Rattle.std.proofs.lemmas.Iterator.Consumers.{YieldsList-from_chain, YieldsList-at}
@@ -13,7 +14,8 @@ use Rattle.alternate.proofs.second.write_alternate.Goals as goal
 pub loop-place-preserved : goal.loop-place-preserved
 loop-place-preserved c =
     let step = c.in-Some.ensures.steps in
-    written_more _ _ _ _ _ _ c.in-Some.number c.loop-place.invariant step.0.1 step.1 step.2
+    let more = written_more _ _ c.next.new.self _ _ _ c.in-Some.number c.loop-place.invariant step.0.1 step.1 step.2 in
+    record { place = more.place; room = more.room; written = let written = more.written in search (rules, common_steps) }
 
 pub returns : goal.returns
 returns c =
